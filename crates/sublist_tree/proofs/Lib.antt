@@ -1,0 +1,9 @@
+pub mod Sorting
+pub mod Fork
+pub mod Order
+pub mod Bytes
+pub mod Route
+pub mod Counting
+pub mod Sorted
+pub mod Hash
+pub mod Rows
