@@ -1,0 +1,11 @@
+pub mod Members
+pub mod Runs
+pub mod Growth
+pub mod Left
+pub mod Children
+pub mod Frontier
+pub mod Sizes
+pub mod Targets
+pub mod Walks
+pub mod Heads
+pub mod Worst

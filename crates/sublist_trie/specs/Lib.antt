@@ -1,0 +1,4 @@
+-- The tree as the history of its nodes.
+pub mod Trie
+pub mod Ends
+pub mod Pass
