@@ -1,0 +1,9 @@
+-- Laws of the walk over an area.
+pub mod Parts
+pub mod Pushes
+pub mod Levels
+pub mod Visits
+pub mod Walks
+pub mod Writing
+pub mod Frontiers
+pub mod Held

@@ -1,0 +1,281 @@
+-- What each way through `visit`, `visit_front` and `collect_exact` makes of a level: one node, then the frontier's nodes in turn.
+use Prim.Native.Nat.{ℕ, suc, _+_, _≤_, _<_}
+use native.Mathlib.Numerals.{add-one}
+use native.Mathlib.Omega.{arith}
+use mathlib.Core.Path.{_≡_, refl, sym, _∙_, ap}
+use mathlib.Core.Bool.{Bool, true, false}
+use mathlib.Core.List.{List, [], _∷_, _++_, append-nil, append-assoc}
+use lib.Dec.{leb, ltb}
+use lib.ListN.{length, getD, take, drop, length-append}
+use lib.Seq.{length-take-le, take-suc, take-take, getD-take, split-at}
+use Rattle.subject.specs.Choice.{pick}
+use Rattle.sublist_area.specs.declared.Child.{Child}
+use Rattle.sublist_area.specs.declared.Child.the-variants.{Node, Missing, Damaged}
+use Rattle.sublist_area.specs.Words.{word, literalChild, starChild}
+use Rattle.sublist_walk.specs.Walk.{part, among, Level, level, wide, damaged, collect, push, visit, visits, exact}
+use Rattle.sublist_walk.specs.Told.{Listed}
+use Rattle.sublist_walk.proofs.Parts.{sets-append}
+
+-- nothing yet
+pub listed-none : (at : ℕ) (out : List ℕ) → Listed (level [] []) [] at at 0 out out
+listed-none at out = record { list = []; is = refl; sized = omega arith; most = omega arith; stored = refl }
+
+-- two lists, read at i and at j nodes, the second written behind the first
+pub joined : (s s1 s2 : Level) (next next1 : List ℕ) (at size size1 i j : ℕ) (out now after : List ℕ) (w : Listed s next at size i out now) (v : Listed s1 next1 size size1 j now after)
+    → s2 ≡ level next1 (w .list ++ v .list) → Listed s2 next1 at size1 (i + j) out after
+joined s s1 s2 next next1 at size size1 i j out now after w v e = record {
+  list = w .list ++ v .list;
+  is = e;
+  sized = rw (length-append (w .list) (v .list)) (let x = w .sized in let y = v .sized in omega arith);
+  most = let x = w .most in let y = v .most in omega arith;
+  stored = v .stored ∙ rw (w .sized, w .stored) (sym (sets-append out at (w .list) (v .list)));
+}
+
+-- a level whose list comes behind another
+unfoldable behind : List ℕ → Level → Level
+behind l (level next list) = level next (l ++ list)
+behind l wide = wide
+behind l damaged = damaged
+
+behind-pick : (l : List ℕ) (t : Bool) (x y : Level) → behind l (pick t x y) ≡ pick t (behind l x) (behind l y)
+behind-pick l true x y = refl
+behind-pick l false x y = refl
+
+behind-append : (l r : List ℕ) (s : Level) → behind (l ++ r) s ≡ behind l (behind r s)
+unfolding behind
+behind-append l r (level next list) = rw (append-assoc l r list)
+behind-append l r wide = refl
+behind-append l r damaged = refl
+
+push-behind : (k : ℕ) (l : List ℕ) (s : Level) (c : Child) → push k (behind l s) c ≡ behind l (push k s c)
+unfolding behind push
+push-behind k l (level next list) (Node j) =
+    sym (behind-pick l (among j next) (level next list) (pick (ltb (length next) k) (level (next ++ j ∷ []) list) wide)
+    ∙ ap (pick (among j next) (level next (l ++ list))) (behind-pick l (ltb (length next) k) (level (next ++ j ∷ []) list) wide))
+push-behind k l (level next list) (Missing link) = refl
+push-behind k l (level next list) Damaged = refl
+push-behind k l wide c = refl
+push-behind k l damaged c = refl
+
+-- what a node's words say does not hang on the level so far
+module _ (a : List ℕ) (m : ℕ) (ts : List ℕ) (f i : ℕ) where
+  outside-too : (next list : List ℕ) → collect a m ts f i (level [] []) ≡ damaged → collect a m ts f i (level next list) ≡ damaged
+  unfolding collect
+  outside-too next list e = go (leb (word a i f + word a i (f + 1)) m) e
+    where
+      new : List ℕ
+      new = part ts (word a i f) (word a i (f + 1))
+
+      go : (t : Bool) → pick t (level [] ([] ++ new)) damaged ≡ damaged → pick t (level next (list ++ new)) damaged ≡ damaged
+      go true w = let z : _≡_ {A = ℕ} 0 1 = cc in absurd (omega arith)
+      go false w = refl
+
+  collect-new : (next list new : List ℕ) → collect a m ts f i (level [] []) ≡ level [] new → collect a m ts f i (level next list) ≡ level next (list ++ new)
+  unfolding collect
+  collect-new next list new e = go (leb (word a i f + word a i (f + 1)) m) e
+    where
+      now : List ℕ
+      now = part ts (word a i f) (word a i (f + 1))
+
+      go : (t : Bool) → pick t (level [] ([] ++ now)) damaged ≡ level [] new → pick t (level next (list ++ now)) damaged ≡ level next (list ++ new)
+      go true w = cc
+      go false w = let z : _≡_ {A = ℕ} 0 1 = cc in absurd (omega arith)
+
+  collect-behind : (next list : List ℕ) → collect a m ts f i (level next list) ≡ behind list (collect a m ts f i (level next []))
+  unfolding collect behind
+  collect-behind next list =
+      sym (behind-pick list (leb (word a i f + word a i (f + 1)) m) (level next ([] ++ part ts (word a i f) (word a i (f + 1)))) damaged)
+
+  collect-through : (l : List ℕ) (s : Level) → collect a m ts f i (behind l s) ≡ behind l (collect a m ts f i s)
+  unfolding collect behind
+  collect-through l (level next list) =
+      collect-behind next (l ++ list) ∙ behind-append l list (collect a m ts f i (level next [])) ∙ ap (behind l) (sym (collect-behind next list))
+  collect-through l wide = refl
+  collect-through l damaged = refl
+
+-- a frontier's first i nodes, the next one, and those behind it
+nodes-split : (l : List ℕ) (i c : ℕ) → i < c → c ≤ length l → take c l ≡ take i l ++ getD l i 0 ∷ drop (suc i) (take c l)
+nodes-split l i c q r = split-at (take c l) i 0 (rw (length-take-le c l r) q) ∙ rw (take-take i c l (omega arith), getD-take c l i 0 q)
+
+module _ (k : ℕ) (a : List ℕ) (n m : ℕ) (ts : List ℕ) (h : ℕ) where
+  -- one node, from a frontier with nothing listed: `made` is what its children make of the frontier
+  module _ (next : List ℕ) (i : ℕ) where
+    pub visit-outside : collect a m ts 6 i (level [] []) ≡ damaged → visit k a n m ts h (level next []) i ≡ damaged
+    unfolding visit push
+    visit-outside e = rw (outside-too a m ts 6 i next [] e)
+
+    module _ (made : Level) (p : made ≡ push k (push k (level next []) (literalChild a n i h)) (starChild a n i)) (at size : ℕ) (out after : List ℕ)
+        (w : Listed (collect a m ts 6 i (level [] [])) [] at size 1 out after) where
+      visit-behind : visit k a n m ts h (level next []) i ≡ behind (w .list) made
+      unfolding visit behind
+      visit-behind =
+          rw (collect-new a m ts 6 i next [] (w .list) (w .is), p)
+          (rw append-nil at (ap (λ s. push k s (starChild a n i)) (push-behind k (w .list) (level next []) (literalChild a n i h))
+          ∙ push-behind k (w .list) (push k (level next []) (literalChild a n i h)) (starChild a n i)))
+
+      pub visit-wide : made ≡ wide → visit k a n m ts h (level next []) i ≡ wide
+      unfolding behind
+      visit-wide e = visit-behind ∙ rw e
+
+      pub visit-damaged : made ≡ damaged → visit k a n m ts h (level next []) i ≡ damaged
+      unfolding behind
+      visit-damaged e = visit-behind ∙ rw e
+
+      pub visit-on : (next1 : List ℕ) → made ≡ level next1 [] → Listed (visit k a n m ts h (level next []) i) next1 at size 1 out after
+      unfolding behind
+      visit-on next1 e = record {
+        list = w .list;
+        is = visit-behind ∙ rw (e, append-nil);
+        sized = w .sized;
+        most = w .most;
+        stored = w .stored;
+      }
+
+  -- one node, behind a list
+  module _ (next list : List ℕ) (i : ℕ) where
+    visit-through : visit k a n m ts h (level next list) i ≡ behind list (visit k a n m ts h (level next []) i)
+    unfolding visit
+    visit-through =
+        rw (collect-behind a m ts 6 i next list)
+        (ap (λ s. push k s (starChild a n i)) (push-behind k list (collect a m ts 6 i (level next [])) (literalChild a n i h))
+        ∙ push-behind k list (push k (collect a m ts 6 i (level next [])) (literalChild a n i h)) (starChild a n i))
+
+  visit-through-all : (l : List ℕ) (s : Level) (i : ℕ) → visit k a n m ts h (behind l s) i ≡ behind l (visit k a n m ts h s i)
+  unfolding visit collect push behind
+  visit-through-all l (level next list) i =
+      visit-through next (l ++ list) i ∙ behind-append l list (visit k a n m ts h (level next []) i) ∙ ap (behind l) (sym (visit-through next list i))
+  visit-through-all l wide i = refl
+  visit-through-all l damaged i = refl
+
+  visits-through : (l : List ℕ) (s : Level) (is : List ℕ) → visits k a n m ts h (behind l s) is ≡ behind l (visits k a n m ts h s is)
+  unfolding visits
+  visits-through l s [] = refl
+  visits-through l s (i ∷ is) = rw (visit-through-all l s i) (visits-through l (visit k a n m ts h s i) is)
+
+  visits-with : (list is : List ℕ) → visits k a n m ts h (level [] list) is ≡ behind list (visits k a n m ts h (level [] []) is)
+  unfolding behind
+  visits-with list is = rw append-nil at (visits-through list (level [] []) is)
+
+  -- a whole frontier, behind a list
+  module _ (list is : List ℕ) where
+    pub all-wide : visits k a n m ts h (level [] []) is ≡ wide → visits k a n m ts h (level [] list) is ≡ wide
+    unfolding behind
+    all-wide e = visits-with list is ∙ rw e
+
+    pub all-damaged : visits k a n m ts h (level [] []) is ≡ damaged → visits k a n m ts h (level [] list) is ≡ damaged
+    unfolding behind
+    all-damaged e = visits-with list is ∙ rw e
+
+    pub all-on : (next new : List ℕ) → visits k a n m ts h (level [] []) is ≡ level next new → visits k a n m ts h (level [] list) is ≡ level next (list ++ new)
+    unfolding behind
+    all-on next new e = visits-with list is ∙ rw e
+
+  visits-append : (s : Level) (is js : List ℕ) → visits k a n m ts h s (is ++ js) ≡ visits k a n m ts h (visits k a n m ts h s is) js
+  unfolding visits
+  visits-append s [] js = refl
+  visits-append s (i ∷ is) js = visits-append (visit k a n m ts h s i) is js
+
+  pub visits-wide : (is : List ℕ) → visits k a n m ts h wide is ≡ wide
+  unfolding visits visit collect push
+  visits-wide [] = refl
+  visits-wide (i ∷ is) = visits-wide is
+
+  pub visits-damaged : (is : List ℕ) → visits k a n m ts h damaged is ≡ damaged
+  unfolding visits visit collect push
+  visits-damaged [] = refl
+  visits-damaged (i ∷ is) = visits-damaged is
+
+  -- the first i nodes of a frontier give a level; then the next one
+  module _ (l next : List ℕ) (at size i : ℕ) (out now : List ℕ)
+      (w : Listed (visits k a n m ts h (level [] []) (take i l)) next at size i out now) where
+    visits-next : i < length l → visits k a n m ts h (level [] []) (take (i + 1) l) ≡ behind (w .list) (visit k a n m ts h (level next []) (getD l i 0))
+    unfolding visits
+    visits-next q =
+        rw (add-one i, take-suc l i 0 q, visits-append (level [] []) (take i l) (getD l i 0 ∷ []), w .is) (visit-through next (w .list) (getD l i 0))
+
+    pub next-on : i < length l → (k1 : ℕ) → k1 ≡ k → (next1 : List ℕ) (size1 : ℕ) (after : List ℕ) → Listed (visit k1 a n m ts h (level next []) (getD l i 0)) next1 size size1 1 now after
+        → Listed (visits k a n m ts h (level [] []) (take (i + 1) l)) next1 at size1 (i + 1) out after
+    unfolding behind
+    next-on q k1 g next1 size1 after u =
+        let v = (rw g at u) in
+        joined _ _ _ next next1 at size size1 i 1 out now after w v (visits-next q ∙ rw (v .is))
+
+    module _ (c : ℕ) (q : i < c) (r : c ≤ length l) where
+      visits-split : visits k a n m ts h (level [] []) (take c l) ≡ visits k a n m ts h (behind (w .list) (visit k a n m ts h (level next []) (getD l i 0))) (drop (suc i) (take c l))
+      unfolding visits
+      visits-split =
+          ap (visits k a n m ts h (level [] [])) (nodes-split l i c q r)
+          ∙ visits-append (level [] []) (take i l) (getD l i 0 ∷ drop (suc i) (take c l))
+          ∙ ap (λ s. visits k a n m ts h (visit k a n m ts h s (getD l i 0)) (drop (suc i) (take c l))) (w .is)
+          ∙ ap (λ s. visits k a n m ts h s (drop (suc i) (take c l))) (visit-through next (w .list) (getD l i 0))
+
+      pub next-wide : (k1 : ℕ) → k1 ≡ k → visit k1 a n m ts h (level next []) (getD l i 0) ≡ wide → visits k a n m ts h (level [] []) (take c l) ≡ wide
+      unfolding behind
+      next-wide k1 g e = visits-split ∙ rw (rw g at e) (visits-wide (drop (suc i) (take c l)))
+
+      pub next-damaged : (k1 : ℕ) → k1 ≡ k → visit k1 a n m ts h (level next []) (getD l i 0) ≡ damaged → visits k a n m ts h (level [] []) (take c l) ≡ damaged
+      unfolding behind
+      next-damaged k1 g e = visits-split ∙ rw (rw g at e) (visits-damaged (drop (suc i) (take c l)))
+
+module _ (k : ℕ) (a : List ℕ) (n m : ℕ) (ts : List ℕ) where
+  exact-append : (s : Level) (is js : List ℕ) → exact k a n m ts s (is ++ js) ≡ exact k a n m ts (exact k a n m ts s is) js
+  unfolding exact
+  exact-append s [] js = refl
+  exact-append s (i ∷ is) js = exact-append (collect a m ts 4 i s) is js
+
+  exact-damaged : (is : List ℕ) → exact k a n m ts damaged is ≡ damaged
+  unfolding exact collect
+  exact-damaged [] = refl
+  exact-damaged (i ∷ is) = exact-damaged is
+
+  -- neither limit nor node count matters
+  pub exact-any : (s : Level) (is : List ℕ) → exact k a n m ts s is ≡ exact 0 a 0 m ts s is
+  unfolding exact
+  exact-any s [] = refl
+  exact-any s (i ∷ is) = exact-any (collect a m ts 4 i s) is
+
+  exact-through : (l : List ℕ) (s : Level) (is : List ℕ) → exact k a n m ts (behind l s) is ≡ behind l (exact k a n m ts s is)
+  unfolding exact
+  exact-through l s [] = refl
+  exact-through l s (i ∷ is) = rw (collect-through a m ts 4 i l s) (exact-through l (collect a m ts 4 i s) is)
+
+  exact-with : (list is : List ℕ) → exact k a n m ts (level [] list) is ≡ behind list (exact k a n m ts (level [] []) is)
+  unfolding behind
+  exact-with list is = rw append-nil at (exact-through list (level [] []) is)
+
+  -- behind a list
+  module _ (list is : List ℕ) where
+    pub exact-listed : (new : List ℕ) → exact k a n m ts (level [] []) is ≡ level [] new → exact k a n m ts (level [] list) is ≡ level [] (list ++ new)
+    unfolding behind
+    exact-listed new e = exact-with list is ∙ rw e
+
+    pub exact-failed : exact k a n m ts (level [] []) is ≡ damaged → exact k a n m ts (level [] list) is ≡ damaged
+    unfolding behind
+    exact-failed e = exact-with list is ∙ rw e
+
+  -- the exact targets of the first i nodes of a frontier; then of the next one
+  module _ (l : List ℕ) (at size i : ℕ) (out now : List ℕ) (w : Listed (exact k a n m ts (level [] []) (take i l)) [] at size i out now) where
+    pub exact-on : i < length l → (size1 : ℕ) (after : List ℕ) → Listed (collect a m ts 4 (getD l i 0) (level [] [])) [] size size1 1 now after
+        → Listed (exact k a n m ts (level [] []) (take (i + 1) l)) [] at size1 (i + 1) out after
+    unfolding exact
+    exact-on q size1 after v =
+        joined _ _ _ [] [] at size size1 i 1 out now after w v
+        (rw (add-one i, take-suc l i 0 q, exact-append (level [] []) (take i l) (getD l i 0 ∷ []), w .is) (collect-new a m ts 4 (getD l i 0) [] (w .list) (v .list) (v .is)))
+
+    pub exact-outside : (c : ℕ) → i < c → c ≤ length l → collect a m ts 4 (getD l i 0) (level [] []) ≡ damaged → exact k a n m ts (level [] []) (take c l) ≡ damaged
+    unfolding exact
+    exact-outside c q r e =
+        ap (exact k a n m ts (level [] [])) (nodes-split l i c q r)
+        ∙ exact-append (level [] []) (take i l) (getD l i 0 ∷ drop (suc i) (take c l))
+        ∙ ap (λ s. exact k a n m ts (collect a m ts 4 (getD l i 0) s) (drop (suc i) (take c l))) (w .is)
+        ∙ ap (λ s. exact k a n m ts s (drop (suc i) (take c l))) (outside-too a m ts 4 (getD l i 0) [] (w .list) e)
+        ∙ exact-damaged (drop (suc i) (take c l))
+
+-- the visits of a frontier, as two calls name limit and hash
+module _ (k1 k : ℕ) (g : k1 ≡ k) (h1 h : ℕ) (e : h1 ≡ h) (a : List ℕ) (n m : ℕ) (ts : List ℕ) (s : Level) (is : List ℕ) where
+  pub visits-same : visits k a n m ts h s is ≡ visits k1 a n m ts h1 s is
+  visits-same = rw (g, e)
+
+  pub visits-copied : (next next1 : List ℕ) (at size i : ℕ) (out after : List ℕ) → next1 ≡ next → Listed (visits k1 a n m ts h1 s is) next at size i out after
+      → Listed (visits k a n m ts h s is) next1 at size i out after
+  visits-copied next next1 at size i out after c w = rw (c, ← g, ← e) w

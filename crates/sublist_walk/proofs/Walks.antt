@@ -1,0 +1,116 @@
+-- What each way through a turn of `walk`'s loop, and its end, make of a walk: w is what it ends with.
+use Prim.Native.Nat.{ℕ, _+_, _-_, _*_, _≤_, _<_, max}
+use native.Mathlib.Omega.{arith}
+use mathlib.Core.Path.{_≡_, refl, sym, _∙_}
+use mathlib.Core.Bool.{true, false}
+use mathlib.Core.List.{List, [], _∷_, _++_, map}
+use lib.ListN.{length, take, drop, set, length-append}
+use lib.Seq.{take-suc-set, sets}
+use Rattle.subject.specs.Text.{tokens}
+use Rattle.subject.specs.Fnv.{fnv}
+use Rattle.subject.specs.Reading.{dotFrom, tokensFrom}
+use Rattle.subject.proofs.Positions.{tokens-start, tokens-next, tokens-end}
+use Rattle.sublist_walk.specs.Walk.{level, wide, damaged, at, tooWide, broken, Walked, failed, visits, arrived, onToken, onTokens, exact, listed, ended, walkOver}
+use Rattle.sublist_walk.specs.Told.{Listed, Finds}
+use Rattle.sublist_walk.proofs.Parts.{sets-behind}
+use Rattle.sublist_walk.proofs.Visits.{all-wide, all-damaged, all-on, exact-any, exact-listed, exact-failed}
+
+-- a frontier, and the list and the peak so far: with the hashes left the walk ends with w. The place in the subject bounds the list's size: 2^42 for each token passed
+pub record Under (w : Walked) (k : ℕ) (a : List ℕ) (n m : ℕ) (ts front : List ℕ) (peak size place : ℕ) (hs out now : List ℕ) : Type 0 where
+  pub list : List ℕ
+  pub same : ended k a n m ts (onTokens k a n m ts (at front list peak) hs) ≡ w
+  pub sized : size ≡ length list
+  pub most : size ≤ place * 4398046511104
+  pub stored : now ≡ sets out 0 list
+
+-- the hashes left from a place on
+pub hashes-next : (subject : List ℕ) (place end : ℕ) → end ≡ dotFrom subject place → place ≤ length subject
+    → map fnv (tokensFrom subject place) ≡ fnv (take (end - place) (drop place subject)) ∷ map fnv (tokensFrom subject (end + 1))
+hashes-next subject place end e h = rw (e, tokens-next subject place h)
+
+pub hashes-end : (subject : List ℕ) (place : ℕ) → length subject < place → map fnv (tokensFrom subject place) ≡ []
+hashes-end subject place h = rw (tokens-end subject place h)
+
+module _ (k : ℕ) (a : List ℕ) (n m : ℕ) (ts : List ℕ) where
+  -- the root alone
+  pub at-root : (subject front out : List ℕ) → 0 < length front
+      → Under (walkOver k a n m ts (map fnv (tokens subject))) k a n m ts (take 1 (set front 0 0)) 1 0 0 (map fnv (tokensFrom subject 0)) out out
+  unfolding walkOver
+  at-root subject front out h = record {
+    list = [];
+    same = rw (take-suc-set front 0 0 h, tokens-start subject);
+    sized = refl;
+    most = omega arith;
+    stored = refl;
+  }
+
+  tokens-wide : (hs : List ℕ) → onTokens k a n m ts tooWide hs ≡ tooWide
+  unfolding onTokens onToken
+  tokens-wide [] = refl
+  tokens-wide (h ∷ hs) = tokens-wide hs
+
+  tokens-broken : (hs : List ℕ) → onTokens k a n m ts broken hs ≡ broken
+  unfolding onTokens onToken
+  tokens-broken [] = refl
+  tokens-broken (h ∷ hs) = tokens-broken hs
+
+  -- no frontier, no change
+  tokens-idle : (list : List ℕ) (peak : ℕ) (hs : List ℕ) → onTokens k a n m ts (at [] list peak) hs ≡ at [] list peak
+  unfolding onTokens onToken arrived visits
+  tokens-idle list peak [] = refl
+  tokens-idle list peak (h ∷ hs) =
+      let e : max peak 0 ≡ peak = omega arith in
+      rw e (tokens-idle list peak hs)
+
+  module _ (w : Walked) (front : List ℕ) (peak size place : ℕ) (hs out now : List ℕ) (u : Under w k a n m ts front peak size place hs out now) where
+    -- an empty frontier
+    pub stops : front ≡ [] → Finds w size peak out now
+    unfolding ended exact listed
+    stops e = record {
+      list = u .list;
+      is = sym (u .same) ∙ rw (e, tokens-idle (u .list) peak hs);
+      sized = u .sized;
+      stored = u .stored;
+    }
+
+    module _ (none : hs ≡ []) where
+      last : listed k a n m ts peak (exact k a n m ts (level [] (u .list)) front) ≡ w
+      unfolding onTokens ended
+      last = rw none at (u .same)
+
+      pub ends-damaged : exact 0 a 0 m ts (level [] []) front ≡ damaged → w ≡ failed false
+      unfolding listed
+      ends-damaged e = sym last ∙ rw (exact-failed k a n m ts (u .list) front (exact-any k a n m ts (level [] []) front ∙ e))
+
+      pub ends-found : (size1 i : ℕ) (after : List ℕ) → Listed (exact 0 a 0 m ts (level [] []) front) [] size size1 i now after → Finds w size1 peak out after
+      unfolding listed
+      ends-found size1 i after v = record {
+        list = u .list ++ v .list;
+        is = sym last ∙ rw (exact-listed k a n m ts (u .list) front (v .list) (exact-any k a n m ts (level [] []) front ∙ v .is));
+        sized = rw (length-append (u .list) (v .list)) (let x = u .sized in let y = v .sized in omega arith);
+        stored = v .stored ∙ rw (u .sized, u .stored) (sym (sets-behind out (u .list) (v .list)));
+      }
+
+    module _ (h : ℕ) (rest : List ℕ) (some : hs ≡ h ∷ rest) where
+      next : ended k a n m ts (onTokens k a n m ts (arrived k a n m ts peak (visits k a n m ts h (level [] (u .list)) front)) rest) ≡ w
+      unfolding onTokens onToken
+      next = rw some at (u .same)
+
+      pub goes-wide : visits k a n m ts h (level [] []) front ≡ wide → w ≡ failed true
+      unfolding arrived ended
+      goes-wide e = sym next ∙ rw (all-wide k a n m ts h (u .list) front e, tokens-wide rest)
+
+      pub goes-damaged : visits k a n m ts h (level [] []) front ≡ damaged → w ≡ failed false
+      unfolding arrived ended
+      goes-damaged e = sym next ∙ rw (all-damaged k a n m ts h (u .list) front e, tokens-broken rest)
+
+      pub goes-on : (front1 : List ℕ) (peak1 size1 place1 i : ℕ) (after : List ℕ) → Listed (visits k a n m ts h (level [] []) front) front1 size size1 i now after
+          → peak1 ≡ max peak (length front1) → i ≤ 1024 → place < place1 → Under w k a n m ts front1 peak1 size1 place1 rest out after
+      unfolding arrived
+      goes-on front1 peak1 size1 place1 i after v p b q = record {
+        list = u .list ++ v .list;
+        same = rw p (rw (all-on k a n m ts h (u .list) front front1 (v .list) (v .is)) at next);
+        sized = rw (length-append (u .list) (v .list)) (let x = u .sized in let y = v .sized in omega arith);
+        most = let x = u .most in let y = v .most in omega arith;
+        stored = v .stored ∙ rw (u .sized, u .stored) (sym (sets-behind out (u .list) (v .list)));
+      }

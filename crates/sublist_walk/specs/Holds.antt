@@ -1,0 +1,39 @@
+-- An area reads back as the tree of a list of lines: the words of n nodes in a, and m targets in ts.
+use Prim.Native.Nat.{ℕ, _+_, _*_, _≤_, _<_, _^_}
+use mathlib.Core.Path.{_≡_}
+use mathlib.Core.Bool.{Bool, true, false}
+use mathlib.Core.List.{List, [], _∷_, _++_}
+use lib.Dec.{eqb}
+use lib.ListN.{length}
+use Rattle.sublist_tree.specs.Tree.{Key, star, lit, Line, below, ends}
+use Rattle.sublist_trie.specs.Trie.{leftAt}
+use Rattle.sublist_area.specs.declared.Child.{Child}
+use Rattle.sublist_area.specs.declared.Child.the-variants.{Node, Missing, Damaged}
+use Rattle.sublist_area.specs.Words.{word, childOf}
+use Rattle.sublist_walk.specs.Walk.{part}
+
+-- a hash fits 64 bits
+abbrev pub Small : Key ℕ → Type 0
+Small star = Unit {0}
+Small (lit h) = h < 2 ^ 64
+
+-- what a lookup by k at a node with the run ks says, if the lines `under` go on with k: the node with the run ks and k; or none, if no line does
+abbrev pub Leads : ℕ → (ℕ → List (Key ℕ)) → List (Key ℕ) → Key ℕ → List (Line ℕ) → Child → Type 0
+Leads n label ks k under (Node j) = (j < n) × (label j ≡ ks ++ (k ∷ [])) × (under ≡ [] → ⊥)
+Leads n label ks k under (Missing link) = under ≡ []
+Leads n label ks k under Damaged = ⊥
+
+-- the words f and f + 1 of node i, start and count, say these targets
+abbrev pub Says : List ℕ → ℕ → List ℕ → ℕ → ℕ → List ℕ → Type 0
+Says a m ts i f targets = (word a i f + word a i (f + 1) ≤ m) × (part ts (word a i f) (word a i (f + 1)) ≡ targets)
+
+pub record Holds (a : List ℕ) (n m : ℕ) (ts : List ℕ) (ls : List (Line ℕ)) : Type 0 where
+  pub rooted : 0 < n
+  pub nodesFit : n * 16 ≤ length a
+  pub targetsFit : m ≤ length ts
+  -- the run of keys that each node stands for
+  pub label : ℕ → List (Key ℕ)
+  pub top : label 0 ≡ []
+  pub child : (i : ℕ) (k : Key ℕ) → i < n → Small k → Leads n label (label i) k (below eqb k (leftAt eqb ls (label i))) (childOf a n i k)
+  pub exact : (i : ℕ) → i < n → Says a m ts i 4 (ends false (leftAt eqb ls (label i)))
+  pub tails : (i : ℕ) → i < n → Says a m ts i 6 (ends true (leftAt eqb ls (label i)))

@@ -1,0 +1,50 @@
+-- The call `match_table`: what it answers and what it leaves in the output.
+use Prim.Native.Nat.{ℕ, zero, suc, _*_}
+use mathlib.Core.Bool.{Bool, true, false}
+use mathlib.Core.List.{List, [], _∷_, _++_, map}
+use lib.Dec.{ltb, leb}
+use lib.ListN.{length, drop}
+use Rattle.subject.specs.Choice.{pick, and}
+use Rattle.subject.specs.Text.{tokens}
+use Rattle.subject.specs.Fnv.{fnv}
+use Rattle.subject.specs.Answers.{Answer, answer, refusal}
+use Rattle.subject.specs.Grammar.{grammar}
+use Rattle.sublist_walk.specs.declared.TableMatch.{TableMatch}
+use Rattle.sublist_walk.specs.declared.TableMatch.the-variants.{Listed, Invalid, Damaged, OutShort}
+use Rattle.sublist_walk.specs.Walk.{Walked, found, failed, walkOver}
+
+-- 01's numbers: the list's length and the peak; 1 to 9; 19; 21 with the length needed
+abbrev pub matchAnswer : TableMatch → Answer
+matchAnswer (Listed count peak) = answer 0 (count ∷ peak ∷ [])
+matchAnswer (Invalid e) = refusal e
+matchAnswer Damaged = answer 19 []
+matchAnswer (OutShort needed) = answer 21 (needed ∷ [])
+
+-- the list written over the first places
+abbrev pub over : List ℕ → List ℕ → List ℕ
+over list out = list ++ drop (length list) out
+
+-- 19 on the counts: there is a node, and neither count exceeds its area
+abbrev pub countsFit : ℕ → ℕ → List ℕ → List ℕ → Bool
+countsFit n m a ts = and (ltb 0 n) (and (leb (n * 16) (length a)) (leb m (length ts)))
+
+-- an answer, and the output afterwards
+pub data Outcome : Type 0 where
+  outcome : Answer → List ℕ → Outcome
+
+-- 19 in the walk, then 21
+abbrev pub written : Walked → List ℕ → Outcome
+written (failed w) out = outcome (answer 19 []) out
+written (found list peak) out =
+    pick (ltb (length out) (length list)) (outcome (answer 21 (length list ∷ [])) out)
+    (outcome (answer 0 (length list ∷ peak ∷ [])) (over list out))
+
+-- a refused subject leaves the output
+abbrev pub ifSubject : Answer → List ℕ → Outcome → Outcome
+ifSubject (answer zero values) out after = after
+ifSubject (answer (suc k) values) out after = outcome (answer (suc k) values) out
+
+unfoldable pub matchTable : ℕ → ℕ → List ℕ → List ℕ → List ℕ → List ℕ → Outcome
+matchTable n m a ts subject out =
+    ifSubject (grammar false subject) out
+    (pick (countsFit n m a ts) (written (walkOver 1024 a n m ts (map fnv (tokens subject))) out) (outcome (answer 19 []) out))

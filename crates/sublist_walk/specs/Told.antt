@@ -1,0 +1,66 @@
+-- Only private contracts cite this file: what the answers of the walk's steps tell of the levels and walks of Walk.antt.
+use Prim.Native.Nat.{ℕ, _+_, _*_, _≤_}
+use mathlib.Core.Path.{_≡_}
+use mathlib.Core.Bool.{true, false}
+use mathlib.Core.List.{List, []}
+use lib.ListN.{length, take}
+use lib.Seq.{sets}
+use Rattle.sublist_area.specs.declared.Child.{Child}
+use Rattle.sublist_area.specs.declared.Child.the-variants as child
+use Rattle.sublist_walk.specs.declared.Front.{Front}
+use Rattle.sublist_walk.specs.declared.Front.the-variants as front
+use Rattle.sublist_walk.specs.declared.Collected.{Collected}
+use Rattle.sublist_walk.specs.declared.Collected.the-variants as collected
+use Rattle.sublist_walk.specs.declared.Step.{Step}
+use Rattle.sublist_walk.specs.declared.Step.the-variants as step
+use Rattle.sublist_walk.specs.declared.Walked as declared
+use Rattle.sublist_walk.specs.declared.Walked.the-variants as walked
+use Rattle.sublist_walk.specs.Walk.{Level, level, wide, damaged, Walked, found, failed}
+
+-- a frontier of n nodes, where a lookup found none
+abbrev pub missed : Child → ℕ → Front
+missed (child.Node j) n = front.Upto n
+missed (child.Missing link) n = front.Upto n
+missed child.Damaged n = front.Damaged
+
+-- a frontier and nothing listed
+unfoldable pub fronted : Front → List ℕ → Level
+fronted (front.Upto n) to = level (take n to) []
+fronted front.Wide to = wide
+fronted front.Damaged to = damaged
+
+-- the frontier has at most k nodes
+abbrev pub within : Front → ℕ → Type 0
+within (front.Upto n) k = n ≤ k
+within front.Wide k = Unit {0}
+within front.Damaged k = Unit {0}
+
+-- the level s has the frontier `next` and a list. Behind the `at` targets before it the list makes `size`, at most 2^32 more for each node read,
+-- and the output, `out` before and `after` now, holds it from place `at` on, as far as that goes.
+pub record Listed (s : Level) (next : List ℕ) (at size nodes : ℕ) (out after : List ℕ) : Type 0 where
+  pub list : List ℕ
+  pub is : s ≡ level next list
+  pub sized : size ≡ at + length list
+  pub most : size ≤ at + nodes * 4294967296
+  pub stored : after ≡ sets out at list
+
+abbrev pub Lists : Collected → List ℕ → List ℕ → ℕ → ℕ → Level → Type 0
+Lists (collected.Upto size) out after at nodes s = Listed s [] at size nodes out after
+Lists collected.Damaged out after at nodes s = s ≡ damaged
+
+abbrev pub Reaches : Step → List ℕ → List ℕ → List ℕ → ℕ → ℕ → Level → Type 0
+Reaches (step.On n size) to out after at nodes s = (n ≤ length to) × Listed s (take n to) at size nodes out after
+Reaches step.Wide to out after at nodes s = s ≡ wide
+Reaches step.Damaged to out after at nodes s = s ≡ damaged
+
+-- the walk w ends with this peak and a list of `size` targets, which the output holds from the first place on, as far as that goes
+pub record Finds (w : Walked) (size peak : ℕ) (out after : List ℕ) : Type 0 where
+  pub list : List ℕ
+  pub is : w ≡ found list peak
+  pub sized : size ≡ length list
+  pub stored : after ≡ sets out 0 list
+
+abbrev pub Ends : declared.Walked → List ℕ → List ℕ → Walked → Type 0
+Ends (walked.Found size peak) out after w = Finds w size peak out after
+Ends walked.Wide out after w = w ≡ failed true
+Ends walked.Damaged out after w = w ≡ failed false

@@ -1,0 +1,91 @@
+-- The walk of a subject's hashes over a table: n nodes in the words a, m targets in the words ts. Every area has one outcome.
+use Prim.Native.Nat.{ℕ, zero, suc, _+_, max}
+use mathlib.Core.Bool.{Bool, true, false}
+use mathlib.Core.List.{List, [], _∷_, _++_}
+use lib.Dec.{ltb, leb, eqb}
+use lib.ListN.{length, take, drop}
+use Rattle.subject.specs.Choice.{pick, or}
+use Rattle.sublist_area.specs.declared.Child.{Child}
+use Rattle.sublist_area.specs.declared.Child.the-variants.{Node, Missing, Damaged}
+use Rattle.sublist_area.specs.Words.{word, literalChild, starChild}
+
+-- count elements from a place on
+abbrev pub part : List ℕ → ℕ → ℕ → List ℕ
+part xs from count = take count (drop from xs)
+
+abbrev pub among : ℕ → List ℕ → Bool
+among j [] = false
+among j (i ∷ is) = or (eqb j i) (among j is)
+
+-- a level half done: the next frontier and the list so far; or a frontier that would pass its limit; or a number that points outside
+pub data Level : Type 0 where
+  level : List ℕ → List ℕ → Level
+  wide : Level
+  damaged : Level
+
+-- how far a walk has come: the frontier, the list collected, and the largest frontier met
+pub data Walk : Type 0 where
+  at : List ℕ → List ℕ → ℕ → Walk
+  tooWide : Walk
+  broken : Walk
+
+-- what a walk ends with
+pub data Walked : Type 0 where
+  found : List ℕ → ℕ → Walked
+  failed : Bool → Walked
+
+-- the targets that the words f and f + 1 of node i say, start and count
+unfoldable pub collect : List ℕ → ℕ → List ℕ → ℕ → ℕ → Level → Level
+collect a m ts f i (level next list) = pick (leb (word a i f + word a i (f + 1)) m) (level next (list ++ part ts (word a i f) (word a i (f + 1)))) damaged
+collect a m ts f i wide = wide
+collect a m ts f i damaged = damaged
+
+-- a child joins the next frontier, behind those there, unless it is there; `limit` nodes at the most
+unfoldable pub push : ℕ → Level → Child → Level
+push limit (level next list) (Node j) = pick (among j next) (level next list) (pick (ltb (length next) limit) (level (next ++ (j ∷ [])) list) wide)
+push limit (level next list) (Missing link) = level next list
+push limit (level next list) Damaged = damaged
+push limit wide c = wide
+push limit damaged c = damaged
+
+module _ (limit : ℕ) (a : List ℕ) (n m : ℕ) (ts : List ℕ) where
+  -- one node of the frontier and a token's hash h: its `>` targets, then its literal child, then its `*` child
+  unfoldable pub visit : ℕ → Level → ℕ → Level
+  visit h s i = push limit (push limit (collect a m ts 6 i s) (literalChild a n i h)) (starChild a n i)
+
+  unfoldable pub visits : ℕ → Level → List ℕ → Level
+  visits h s [] = s
+  visits h s (i ∷ is) = visits h (visit h s i) is
+
+  unfoldable pub arrived : ℕ → Level → Walk
+  arrived peak (level next list) = at next list (max peak (length next))
+  arrived peak wide = tooWide
+  arrived peak damaged = broken
+
+  unfoldable pub onToken : Walk → ℕ → Walk
+  onToken (at front list peak) h = arrived peak (visits h (level [] list) front)
+  onToken tooWide h = tooWide
+  onToken broken h = broken
+
+  unfoldable pub onTokens : Walk → List ℕ → Walk
+  onTokens w [] = w
+  onTokens w (h ∷ hs) = onTokens (onToken w h) hs
+
+  -- the exact targets of the nodes that are left
+  unfoldable pub exact : Level → List ℕ → Level
+  exact s [] = s
+  exact s (i ∷ is) = exact (collect a m ts 4 i s) is
+
+  unfoldable pub listed : ℕ → Level → Walked
+  listed peak (level next list) = found list peak
+  listed peak wide = failed true
+  listed peak damaged = failed false
+
+  unfoldable pub ended : Walk → Walked
+  ended (at front list peak) = listed peak (exact (level [] list) front)
+  ended tooWide = failed true
+  ended broken = failed false
+
+  -- from the root alone
+  unfoldable pub walkOver : List ℕ → Walked
+  walkOver hs = ended (onTokens (at (0 ∷ []) [] 1) hs)
