@@ -1,0 +1,89 @@
+-- Two texts read side by side, token by token, as long as their keys are equal. Assumes nothing.
+use Prim.Native.Nat.{ℕ, suc, _+_, _-_, _≤_, _<_}
+use mathlib.Core.Path.{_≡_, refl, sym, _∙_, ap}
+use mathlib.Core.Bool.{Bool, true, false, not}
+use mathlib.Core.List.{List, [], _∷_}
+use borrow.Author.Tests.{eq-eqb}
+use lib.Dec.{eqb}
+use lib.ListN.{length, take, drop}
+use Rattle.subject.specs.Choice.{pick, and, or}
+use Rattle.subject.specs.Text.{isStar, isTail, same}
+use Rattle.subject.specs.Reading.{dotFrom, tokensFrom}
+use Rattle.subject.specs.Fnv.{fnv}
+use Rattle.subject.proofs.Positions.{tokens-start, tokens-end, tokens-next}
+use Rattle.sublist_tree.specs.Tree.{Key, star, lit, Line, line, onto, lineOf, keyIs}
+use Rattle.sublist_tree.proofs.Bytes.{same-sound}
+use Rattle.sublist.specs.Sharing.{keysOf, shared, keysIn, keyOf, sameKey, sharedBy}
+
+-- the tests of two tokens, in order
+module _ (s t : List ℕ) where
+  pub tail-left : isTail s ≡ true → false ≡ sameKey s t
+  unfolding sameKey
+  tail-left e = rw e
+
+  module _ (ls : isTail s ≡ false) where
+    pub tail-right : isTail t ≡ true → false ≡ sameKey s t
+    unfolding sameKey
+    tail-right e = rw (ls, e)
+
+    module _ (lt : isTail t ≡ false) where
+      pub star-left : isStar s ≡ true → isStar t ≡ sameKey s t
+      unfolding sameKey
+      star-left e = rw (ls, lt, e) (go (isStar t))
+        where
+          go : (b : Bool) → b ≡ keyIs eqb (pick b star (lit (fnv t))) star
+          go true = refl
+          go false = refl
+
+      module _ (ns : isStar s ≡ false) where
+        pub star-right : isStar t ≡ true → false ≡ sameKey s t
+        unfolding sameKey
+        star-right e = rw (ls, lt, ns, e)
+
+        module _ (nt : isStar t ≡ false) where
+          pub by-hash : eqb (fnv t) (fnv s) ≡ sameKey s t
+          unfolding sameKey
+          by-hash = rw (ls, lt, ns, nt)
+
+          pub by-bytes : same s t ≡ true → true ≡ sameKey s t
+          by-bytes e = sym (eq-eqb (fnv t) (fnv s) (ap fnv (sym (same-sound s t e)))) ∙ by-hash
+
+shared-none : (ks : List (Key ℕ)) → shared eqb ks [] ≡ 0
+shared-none [] = refl
+shared-none (k ∷ ks) = refl
+
+-- one token of each
+shared-next : (t u : List ℕ) (ts us : List (List ℕ)) → shared eqb (keysIn (t ∷ ts)) (keysIn (u ∷ us)) ≡ pick (sameKey t u) (suc (shared eqb (keysIn ts) (keysIn us))) 0
+unfolding sameKey
+shared-next t u ts us = go (isTail t) (isTail u) (lineOf fnv ts 0) (lineOf fnv us 0)
+  where
+    go : (b c : Bool) (l m : Line ℕ) → shared eqb (keysOf (pick b (line [] true 0) (onto (keyOf t) l))) (keysOf (pick c (line [] true 0) (onto (keyOf u) m)))
+        ≡ pick (and (not (or b c)) (keyIs eqb (keyOf u) (keyOf t))) (suc (shared eqb (keysOf l) (keysOf m))) 0
+    go true c l m = refl
+    go false true (line ks x y) m = refl
+    go false false (line ks x y) (line js v w) = refl
+
+-- how many keys the two go on with alike, from position i of one and j of the other
+unfoldable pub sharedFrom : List ℕ → ℕ → List ℕ → ℕ → ℕ
+sharedFrom a i b j = shared eqb (keysIn (tokensFrom a i)) (keysIn (tokensFrom b j))
+
+module _ (a b : List ℕ) where
+  pub from-start : sharedFrom a 0 b 0 ≡ sharedBy a b
+  unfolding sharedFrom sharedBy
+  from-start = rw (tokens-start a, tokens-start b)
+
+  module _ (i j : ℕ) where
+    pub end-left : length a < i → sharedFrom a i b j ≡ 0
+    unfolding sharedFrom
+    end-left h = rw (tokens-end a i h)
+
+    pub end-right : length b < j → sharedFrom a i b j ≡ 0
+    unfolding sharedFrom
+    end-right h = rw (tokens-end b j h) (shared-none (keysIn (tokensFrom a i)))
+
+    module _ (ha : i ≤ length a) (hb : j ≤ length b) (x y : ℕ) (ea : x ≡ dotFrom a i) (eb : y ≡ dotFrom b j) where
+      pub from-next : (r : Bool) → r ≡ sameKey (take (x - i) (drop i a)) (take (y - j) (drop j b)) → sharedFrom a i b j ≡ pick r (suc (sharedFrom a (x + 1) b (y + 1))) 0
+      unfolding sharedFrom
+      from-next r e =
+          rw (e, ea, eb, tokens-next a i ha, tokens-next b j hb)
+          (shared-next (take (dotFrom a i - i) (drop i a)) (take (dotFrom b j - j) (drop j b)) (tokensFrom a (dotFrom a i + 1)) (tokensFrom b (dotFrom b j + 1)))

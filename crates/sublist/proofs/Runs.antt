@@ -1,0 +1,73 @@
+-- What each way through a turn over a pattern's tokens makes of the run of its line.
+use Prim.Native.Nat.{ℕ, _+_, _-_, _≤_, _<_}
+use mathlib.Core.Path.{_≡_, refl, sym, _∙_}
+use mathlib.Core.Bool.{Bool, true, false}
+use mathlib.Core.List.{List, [], _∷_}
+use lib.ListN.{length, take, drop}
+use Rattle.subject.specs.Text.{isTail}
+use Rattle.subject.specs.Reading.{dotFrom, tokensFrom}
+use Rattle.subject.specs.Fnv.{fnv}
+use Rattle.subject.proofs.Positions.{tokens-end, tokens-next}
+use Rattle.sublist_tree.specs.Tree.{Key, Line, line, onto, lineOf}
+use Rattle.sublist_area.specs.declared.Placed.{Placed}
+use Rattle.sublist_area.specs.declared.Placed.the-variants.{At, Full, Broken}
+use Rattle.sublist_area.specs.Growing.{childOrNew, onward, grown}
+use Rattle.sublist.specs.Passes.{end, Growth, growth, stopped}
+use Rattle.sublist.specs.Core.{tokenKey, runIn}
+
+full-stays : (a : List ℕ) (ks : List (Key ℕ)) → grown (Full, a) ks ≡ (Full, a)
+unfolding grown onward
+full-stays a [] = refl
+full-stays a (k ∷ ks) = full-stays a ks
+
+broken-stays : (a : List ℕ) (ks : List (Key ℕ)) → grown (Broken, a) ks ≡ (Broken, a)
+unfolding grown onward
+broken-stays a [] = refl
+broken-stays a (k ∷ ks) = broken-stays a ks
+
+run-stuck : (a : List ℕ) (l : Line ℕ) → runIn (Full, a) l ≡ stopped a
+unfolding runIn
+run-stuck a (line ks tail target) = rw (full-stays a ks)
+
+run-lost : (a : List ℕ) (l : Line ℕ) → runIn (Broken, a) l ≡ stopped a
+unfolding runIn
+run-lost a (line ks tail target) = rw (broken-stays a ks)
+
+run-onto : (s : Placed × List ℕ) (k : Key ℕ) (l : Line ℕ) → runIn s (onto k l) ≡ runIn (onward (s .0) (s .1) k) l
+unfolding runIn grown
+run-onto s k (line ks tail target) = refl
+
+-- the first token of a line
+line-tail : (t : List ℕ) (ts : List (List ℕ)) (x : ℕ) → isTail t ≡ true → lineOf fnv (t ∷ ts) x ≡ line [] true x
+line-tail t ts x e = rw e
+
+line-key : (t : List ℕ) (ts : List (List ℕ)) (x : ℕ) → isTail t ≡ false → lineOf fnv (t ∷ ts) x ≡ onto (tokenKey t) (lineOf fnv ts x)
+line-key t ts x e = rw e
+
+-- x is where the whole line comes, and the tokens from a position on lead there from node i, in a, with n nodes
+module _ (x : Growth) (a : List ℕ) (n i : ℕ) (text : List ℕ) (at : ℕ) (e : runIn (At i n, a) (lineOf fnv (tokensFrom text at) 0) ≡ x) where
+  pub run-end : length text < at → growth n a (end i false ∷ []) ≡ x
+  unfolding runIn grown
+  run-end h = rw (tokens-end text at h) at e
+
+  module _ (h : at ≤ length text) (stop : ℕ) (d : stop ≡ dotFrom text at) (b : Bool) (t : b ≡ isTail (take (stop - at) (drop at text))) where
+    next : tokensFrom text at ≡ take (stop - at) (drop at text) ∷ tokensFrom text (stop + 1)
+    next = rw d (tokens-next text at h)
+
+    pub run-tail : b ≡ true → growth n a (end i true ∷ []) ≡ x
+    unfolding runIn grown
+    run-tail q = rw (next, line-tail _ (tokensFrom text (stop + 1)) 0 (sym t ∙ q)) at e
+
+    module _ (q : b ≡ false) (r : Placed) (c : List ℕ) (s : (r, c) ≡ childOrNew a n i (tokenKey (take (stop - at) (drop at text)))) where
+      run-turn : runIn (r, c) (lineOf fnv (tokensFrom text (stop + 1)) 0) ≡ x
+      unfolding onward
+      run-turn = rw s (sym (run-onto (At i n, a) _ _) ∙ (rw (next, line-key _ (tokensFrom text (stop + 1)) 0 (sym t ∙ q)) at e))
+
+      pub run-on : (j m : ℕ) → r ≡ At j m → runIn (At j m, c) (lineOf fnv (tokensFrom text (stop + 1)) 0) ≡ x
+      run-on j m p = rw p at run-turn
+
+      pub run-full : r ≡ Full → stopped c ≡ x
+      run-full p = sym (run-stuck c _) ∙ (rw p at run-turn)
+
+      pub run-broken : r ≡ Broken → stopped c ≡ x
+      run-broken p = sym (run-lost c _) ∙ (rw p at run-turn)

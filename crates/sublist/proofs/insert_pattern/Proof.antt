@@ -1,0 +1,169 @@
+-- `sublist::insert_pattern` meets its contract. The loop's invariant: the tokens that are left lead from the node reached, with the area and node count reached, to where the whole pattern leads; the node is one of those counted, and they fit the area. Assumes nothing.
+use Prim.Native.Nat.{_+_, _-_, _*_, _≤_, _<_}
+use native.Mathlib.Omega.{arith}
+use mathlib.Core.Path.{_≡_, refl, _∙_}
+use borrow.Author.Needs.{needs}
+use lib.ListN.{length}
+use Rattle.subject.specs.Text.{tokens}
+use Rattle.subject.specs.Reading.{tokensFrom}
+use Rattle.subject.specs.Fnv.{fnv}
+use Rattle.subject.proofs.Positions.{dot-bounds, tokens-start}
+use Rattle.sublist_tree.specs.Tree.{lineOf}
+use Rattle.sublist_area.specs.declared.Placed.the-variants.{At}
+use Rattle.sublist.specs.Core.{runIn}
+use Rattle.sublist.proofs.Places.{place-fits}
+use Rattle.sublist.proofs.Runs.{run-end, run-tail, run-on, run-full, run-broken}
+use Rattle.sublist.proofs.insert_pattern.Statement.{statement}
+use Rattle.sublist.proofs.insert_pattern.Tie as tie
+
+abbrev Inv-loop : tie.InvT-loop
+Inv-loop area₀ nodes text at₀ node₀ count₀ area at node count =
+    (runIn (At node count, area) (lineOf fnv (tokensFrom text at) 0) ≡ runIn (At 0 nodes, area₀) (lineOf fnv (tokens text) 0))
+    × (length area ≡ length area₀) × (node < count) × (count * 16 ≤ length area₀)
+
+abbrev μ-loop : tie.MeasureT-loop
+μ-loop area₀ nodes text at₀ node₀ count₀ area at node count = length text + 1 - at
+
+loop-holds : tie.Need-loop-holds Inv-loop μ-loop
+loop-holds c = (rw (tokens-start (c .before .before .args .text .now)), refl, search needs, search needs)
+
+find-dot-requires : tie.Need-find-dot-requires Inv-loop μ-loop
+find-dot-requires c κs = search needs
+
+sub-is-tail : tie.Need-sub-is-tail Inv-loop μ-loop
+sub-is-tail c = omega (arith, dot-bounds _ _ (c .find-dot .ensures) (c .before .loop-test .taken))
+
+part-is-tail-start : tie.Need-part-is-tail-start Inv-loop μ-loop
+part-is-tail-start c = omega (arith, dot-bounds _ _ (c .find-dot .ensures) (c .before .loop-test .taken))
+
+part-is-tail-end : tie.Need-part-is-tail-end Inv-loop μ-loop
+part-is-tail-end c = omega (arith, dot-bounds _ _ (c .find-dot .ensures) (c .before .loop-test .taken))
+
+is-tail-requires : tie.Need-is-tail-requires Inv-loop μ-loop
+is-tail-requires c κs = search needs
+
+same-length : tie.Need-same-length Inv-loop μ-loop
+same-length c = c .before .before .before .before .before .loop .inv .1
+
+returns : tie.Need-returns Inv-loop μ-loop
+returns c =
+    let k = c .before in
+    let f = k .before .before in
+    let l = f .before .before .loop in
+    (run-tail _ (l .area) (l .count) (l .node) _ (l .at) (l .inv .0) (f .before .loop-test .taken) _ (f .find-dot .ensures) _ (k .is-tail .ensures) (c .if1 .taken), (l .inv .2, l .inv .3))
+
+sub-token-or-new : tie.Need-sub-token-or-new Inv-loop μ-loop
+sub-token-or-new c =
+    let f = c .before .before .before .before in
+    omega (arith, dot-bounds _ _ (f .find-dot .ensures) (f .before .loop-test .taken))
+
+part-token-or-new-start : tie.Need-part-token-or-new-start Inv-loop μ-loop
+part-token-or-new-start c =
+    let f = c .before .before .before .before in
+    omega (arith, dot-bounds _ _ (f .find-dot .ensures) (f .before .loop-test .taken))
+
+part-token-or-new-end : tie.Need-part-token-or-new-end Inv-loop μ-loop
+part-token-or-new-end c =
+    let f = c .before .before .before .before in
+    omega (arith, dot-bounds _ _ (f .find-dot .ensures) (f .before .loop-test .taken))
+
+token-or-new-requires : tie.Need-token-or-new-requires Inv-loop μ-loop
+token-or-new-requires c κs = search needs
+
+enum-known-id : tie.Need-enum-known-id Inv-loop μ-loop
+enum-known-id c = search needs
+
+enum-told : tie.Need-enum-told Inv-loop μ-loop
+enum-told c = search needs
+
+same-length-2 : tie.Need-same-length-2 Inv-loop μ-loop
+same-length-2 c =
+    let k = c .before .before .before .before in
+    k .token-or-new .kept .0 ∙ k .before .before .before .before .before .before .before .before .loop .inv .1
+
+returns-2 : tie.Need-returns-2 Inv-loop μ-loop
+returns-2 c =
+    let k = c .before .before .before .before in
+    let g = k .before .before .before in
+    let f = g .before .before .before in
+    let l = f .before .before .loop in
+    (run-full _ (l .area) (l .count) (l .node) _ (l .at) (l .inv .0) (f .before .loop-test .taken) _ (f .find-dot .ensures) _ (g .before .is-tail .ensures) (g .if1 .left) _ _ (k .token-or-new .ensures) (c .enum-told .given .1), tt)
+
+enum-told-2 : tie.Need-enum-told-2 Inv-loop μ-loop
+enum-told-2 c = search needs
+
+same-length-3 : tie.Need-same-length-3 Inv-loop μ-loop
+same-length-3 c =
+    let k = c .before .before .before .before in
+    k .token-or-new .kept .0 ∙ k .before .before .before .before .before .before .before .before .loop .inv .1
+
+returns-3 : tie.Need-returns-3 Inv-loop μ-loop
+returns-3 c =
+    let k = c .before .before .before .before in
+    let g = k .before .before .before in
+    let f = g .before .before .before in
+    let l = f .before .before .loop in
+    (run-broken _ (l .area) (l .count) (l .node) _ (l .at) (l .inv .0) (f .before .loop-test .taken) _ (f .find-dot .ensures) _ (g .before .is-tail .ensures) (g .if1 .left) _ _ (k .token-or-new .ensures) (c .enum-told2 .given .1), tt)
+
+add-at : tie.Need-add-at Inv-loop μ-loop
+add-at c =
+    let f = c .before .before .before .before .before .before .before .before .before .before .before in
+    omega (arith, dot-bounds _ _ (f .find-dot .ensures) (f .before .loop-test .taken))
+
+loop-less : tie.Need-loop-less Inv-loop μ-loop
+loop-less c =
+    let f = c .before .before .before .before .before .before .before .before .before .before .before in
+    omega (arith, dot-bounds _ _ (f .find-dot .ensures) (f .before .loop-test .taken))
+
+loop-again : tie.Need-loop-again Inv-loop μ-loop
+loop-again c =
+    let k = c .before .before .before .before .before in
+    let g = k .before .before .before in
+    let f = g .before .before .before in
+    let l = f .before .before .loop in
+    let q = c .before .id .given .1 in
+    let fits = rw q at (place-fits (l .area) (l .count) (l .node) _ (k .token-or-new .result) (k .token-or-new .last .0) (k .token-or-new .ensures) (omega arith)) in (
+      run-on _ (l .area) (l .count) (l .node) _ (l .at) (l .inv .0) (f .before .loop-test .taken) _ (f .find-dot .ensures) _ (g .before .is-tail .ensures) (g .if1 .left) _ _ (k .token-or-new .ensures) _ _ q,
+      k .token-or-new .kept .0 ∙ l .inv .1,
+      fits .0,
+      omega arith,
+    )
+
+same-length-4 : tie.Need-same-length-4 Inv-loop μ-loop
+same-length-4 c = c .before .loop .inv .1
+
+returns-4 : tie.Need-returns-4 Inv-loop μ-loop
+returns-4 c =
+    let l = c .before .loop in
+    (run-end _ (l .area) (l .count) (l .node) _ (l .at) (l .inv .0) (c .loop-test .left), (l .inv .2, l .inv .3))
+
+pub insert-pattern-spec : {M : Type 1} → statement M
+insert-pattern-spec =
+    tie.close
+    (tie.spec
+    Inv-loop
+    μ-loop
+    loop-holds
+    find-dot-requires
+    sub-is-tail
+    part-is-tail-start
+    part-is-tail-end
+    is-tail-requires
+    same-length
+    returns
+    sub-token-or-new
+    part-token-or-new-start
+    part-token-or-new-end
+    token-or-new-requires
+    enum-known-id
+    enum-told
+    same-length-2
+    returns-2
+    enum-told-2
+    same-length-3
+    returns-3
+    add-at
+    loop-less
+    loop-again
+    same-length-4
+    returns-4)

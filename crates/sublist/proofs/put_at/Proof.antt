@@ -1,0 +1,24 @@
+-- `sublist::put_at` meets its contract: a place past the end changes nothing. Assumes nothing.
+use mathlib.Core.Path.{sym}
+use borrow.Author.Needs.{needs}
+use lib.Seq.{set-out}
+use Rattle.sublist.proofs.put_at.Statement.{statement}
+use Rattle.sublist.proofs.put_at.Tie as tie
+
+returns : tie.Need-returns
+returns c = sym (set-out _ _ _ (c .if1 .taken))
+
+mul-targets : tie.Need-mul-targets
+mul-targets c = search needs
+
+slice-write-targets : tie.Need-slice-write-targets
+slice-write-targets c = search needs
+
+same-length : tie.Need-same-length
+same-length c = search needs
+
+returns-2 : tie.Need-returns-2
+returns-2 c = search needs
+
+pub put-at-spec : {M : Type 1} → statement M
+put-at-spec = tie.close (tie.spec returns mul-targets slice-write-targets same-length returns-2)

@@ -1,0 +1,24 @@
+-- Entries: a pattern's place in the text store, and a target.
+use Prim.Native.Nat.{ℕ, _%_}
+use mathlib.Core.List.{List, map}
+use lib.ListN.{take, drop}
+use Rattle.subject.specs.Fnv.{fnv}
+use Rattle.sublist_tree.specs.Tree.{Line}
+use Rattle.sublist_tree.specs.Table.{TableEntry, rootOf}
+use Rattle.sublist.specs.declared.Entry.{Entry}
+
+-- an entry's text
+abbrev pub textOf : List ℕ → Entry → List ℕ
+textOf store e = take (e .length) (drop (e .start) store)
+
+-- an entry's target, which is a word of 32 bits
+abbrev pub targetWord : Entry → ℕ
+targetWord e = e .target % 4294967296
+
+-- the table's entries: with their texts as read
+abbrev pub readFrom : List ℕ → List Entry → List TableEntry
+readFrom store es = map (λ e. record { pattern = textOf store e; target = targetWord e }) es
+
+-- the lines of the table's tree, keyed by hash
+abbrev pub linesOf : List ℕ → List Entry → List (Line ℕ)
+linesOf store es = rootOf fnv (readFrom store es)

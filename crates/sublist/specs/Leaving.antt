@@ -1,0 +1,32 @@
+-- What build leaves in the words lent for nodes and targets.
+use Prim.Native.Nat.{ℕ, zero, suc, _-_}
+use mathlib.Core.Bool.{Bool, true, false}
+use mathlib.Core.List.{List, [], _∷_, map}
+use mathlib.Core.Option.{Option, none, some}
+use lib.Dec.{ltb}
+use lib.ListN.{length}
+use Rattle.subject.specs.Choice.{pick}
+use Rattle.subject.specs.Answers.{Answer}
+use Rattle.sublist_area.specs.Growing.{planted}
+use Rattle.sublist.specs.declared.Entry.{Entry}
+use Rattle.sublist.specs.Entries.{targetWord, linesOf}
+use Rattle.sublist.specs.Building.{badEntries, worstOf}
+use Rattle.sublist.specs.Passes.{Growth, growth, stopped, linesIn, settled, laid, Filling, filling, filled}
+
+-- a refused build leaves the targets; an accepted one the last three passes
+abbrev pub finished : List Entry → List ℕ → List ℕ → Growth → Filling
+finished es store ts (stopped a) = filling a ts
+finished es store ts (growth n a ends) =
+    pick (ltb (length ts) (length es)) (filling a ts)
+    (pick (ltb 1024 (worstOf store es)) (filling (settled a (n - 1)) ts)
+    (filled (filling (laid (settled a (n - 1)) 0 n 0) ts) ends (map targetWord es)))
+
+abbrev pub started : List Entry → List ℕ → List ℕ → List ℕ → Option Answer → Filling
+started es store a ts (some r) = filling a ts
+started es store a ts none =
+    pick (ltb (length a) 16) (filling a ts)
+    (finished es store ts (linesIn (growth 1 (planted a) []) (linesOf store es)))
+
+-- the entries, the text store, the words of nodes and of targets
+unfoldable pub buildLeaves : List Entry → List ℕ → List ℕ → List ℕ → Filling
+buildLeaves es store a ts = pick (ltb 2048 (length es)) (filling a ts) (started es store a ts (badEntries store 0 es))

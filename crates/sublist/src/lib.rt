@@ -1,0 +1,732 @@
+// The list of entries, and the table that a build makes of it. A port of IronBus's SublistBuilder.
+ghost use mathlib.Core.Path.{_≡_};
+ghost use mathlib.Core.List.{[], _++_};
+ghost use mathlib.Core.Option.{none};
+ghost use Prim.Native.Nat.{ℕ, _+_, _-_, _*_, _/_, _%_, _<_, _≤_, max, min};
+ghost use lib.ListN.{length, getD, set, take, drop};
+ghost use Rattle.subject.specs.Text.{tokens};
+ghost use Rattle.subject.specs.Answers.{parsed};
+ghost use Rattle.subject.specs.Fnv.{fnv};
+ghost use Rattle.sublist_tree.specs.Tree.{lineOf};
+ghost use Rattle.sublist_area.specs.Words.{word};
+ghost use Rattle.sublist_area.specs.Growing.{childOrNew};
+ghost use Rattle.sublist.specs.Answers.{buildAnswer, insertAnswer};
+ghost use Rattle.sublist.specs.Entries.{linesOf};
+ghost use Rattle.sublist.specs.Building.{invalid, badEntry, badEntries, needed, buildSays};
+ghost use Rattle.sublist.specs.Passes.{end, growth, counted, countWord, startWord, lineIn, linesIn, nodeWorst, told, settled, laidAt, laid, filling, filledBy, filled};
+ghost use Rattle.sublist.specs.Flat.{unflat, flat, putEntry};
+ghost use Rattle.sublist.specs.Sharing.{sameKey, sharedBy, longest};
+ghost use Rattle.sublist.specs.Core.{checked, placeOf, tokenKey, runIn, endedAs, EndFits, endOf, endsOf, EndBelow, grownAs, AllFit, allIn, rootWorst, targetsOf, answerBy, leftBy, builtBy, leavesBy};
+ghost use Rattle.sublist.specs.Inserting.{insertSays, entriesAfter, storeAfter, afterAnswer, put};
+ghost use Rattle.sublist.specs.Leaving.{buildLeaves};
+ghost use Rattle.sublist.specs.Placing.{turnedDown, decided, roomSays};
+use subject::Parsed;
+use subject::SubjectError;
+use subject::find_dot;
+use subject::is_star;
+use subject::is_tail;
+use subject::same_bytes;
+use subject::token_hash;
+use sublist_area::Placed;
+use sublist_walk::MAX_FORK_FRONTIER;
+
+// The most entries that a list may have.
+pub const MAX_ENTRIES: usize = 2048;
+
+// A pattern's place in the text store, and its target.
+pub struct Entry {
+    pub start: usize,
+    pub length: usize,
+    pub target: u32,
+}
+
+// How many entries of a lent list and how many bytes of its text store are in use.
+pub struct ListState {
+    pub entries: usize,
+    pub used: usize,
+}
+
+// An insert gives the list's new state, or a refusal.
+pub enum Inserted {
+    Done(ListState),
+    Invalid(SubjectError),
+    EntriesFull,
+    TextFull,
+}
+
+// Why a build is refused: 01's numbers 10 and 12 to 16, in order.
+pub enum SublistError {
+    TooManyEntries,
+    BadEntry(usize),
+    InvalidPattern(SubjectError),
+    NodesFull(usize),
+    TargetsFull,
+    ForkLimitExceeded { worst_case: usize, limit: usize },
+}
+
+// A build gives node count, worst case and generation, or a refusal.
+pub enum Built {
+    Table {
+        nodes: usize,
+        worst_case: usize,
+        generation: u64,
+    },
+    Refused(SublistError),
+}
+
+// Whether an entry is sound, or why not.
+enum EntryCheck {
+    Sound,
+    Bad(SublistError),
+}
+
+// Where a pattern ended and the node count afterwards; or no room for a node.
+enum Ended {
+    At { node: u32, tail: bool, count: usize },
+    Full,
+}
+
+// The node count after all entries, or no room for a node.
+enum Grown {
+    Nodes(usize),
+    Full,
+}
+
+// What an insert decides: whether an entry is written, where, which one, and the answer.
+struct Placing {
+    taken: bool,
+    at: usize,
+    entry: Entry,
+    answer: Inserted,
+}
+
+// What is left of so many bytes: nothing if those in use exceed them.
+fn bytes_left(bytes: usize, used: usize) -> usize
+    ensures { λ r. ⌜ r ≡ bytes - used ⌝ }
+{
+    if used < bytes { bytes - used } else { 0 }
+}
+
+// A text is copied to its place in the store.
+fn paste(store: &mut [u8], at: usize, text: &[u8])
+    requires { ⌜ length (now text) ≤ length (now store) - at ⌝ }
+    ensures { λ _. ⌜ now (store .exit) ≡ put (now (store .entry)) at (now (text .entry)) ⌝ }
+{
+    let mut i = 0;
+    while i < text.len() {
+        store[at + i] = text[i];
+        i += 1;
+    }
+}
+
+// A refusal: no entry is written.
+fn turn_down(answer: Inserted) -> Placing
+    ensures { λ r. ⌜ r ≡ turnedDown answer ⌝ }
+{
+    Placing {
+        taken: false,
+        at: 0,
+        entry: Entry {
+            start: 0,
+            length: 0,
+            target: 0,
+        },
+        answer,
+    }
+}
+
+// Rules 10 and 11 for an accepted pattern; its text goes into the store.
+fn place_text(list: ListState, places: usize, store: &mut [u8], text: &[u8], target: u32) -> Placing
+    ensures { λ r. ⌜ (insertAnswer (r .answer) ≡ roomSays list places (length (now (store .entry))) (length (now (text .entry)))) × (r ≡ decided list (length (now (text .entry))) target (r .answer)) × (now (store .exit) ≡ afterAnswer (roomSays list places (length (now (store .entry))) (length (now (text .entry)))) (put (now (store .entry)) (list .used) (now (text .entry))) (now (store .entry))) ⌝ }
+{
+    if MAX_ENTRIES <= list.entries {
+        return turn_down(Inserted::EntriesFull);
+    }
+    if places <= list.entries {
+        return turn_down(Inserted::EntriesFull);
+    }
+    if bytes_left(store.len(), list.used) < text.len() {
+        return turn_down(Inserted::TextFull);
+    }
+    paste(store, list.used, text);
+    Placing {
+        taken: true,
+        at: list.entries,
+        entry: Entry {
+            start: list.used,
+            length: text.len(),
+            target,
+        },
+        answer: Inserted::Done(ListState {
+            entries: list.entries + 1,
+            used: list.used + text.len(),
+        }),
+    }
+}
+
+// Rules 1 to 9, then 10 and 11.
+fn place(list: ListState, places: usize, store: &mut [u8], pattern: &[u8], target: u32) -> Placing
+    ensures { λ r. ⌜ (insertAnswer (r .answer) ≡ insertSays list places (length (now (store .entry))) (now (pattern .entry))) × (r ≡ decided list (length (now (pattern .entry))) target (r .answer)) × (now (store .exit) ≡ afterAnswer (insertSays list places (length (now (store .entry))) (now (pattern .entry))) (put (now (store .entry)) (list .used) (now (pattern .entry))) (now (store .entry))) ⌝ }
+{
+    match subject::parse(pattern) {
+        Parsed::Accepted(_) => place_text(list, places, store, pattern, target),
+        Parsed::Refused(e) => turn_down(Inserted::Invalid(e)),
+    }
+}
+
+// A pattern's text is appended to the store, and its entry to the list. A refusal changes neither.
+pub fn insert(
+    list: ListState,
+    entries: &mut [Entry],
+    store: &mut [u8],
+    pattern: &[u8],
+    target: u32,
+) -> Inserted
+    ensures { λ r. ⌜ (insertAnswer r ≡ insertSays list (length (now (entries .entry))) (length (now (store .entry))) (now (pattern .entry))) × (now (entries .exit) ≡ entriesAfter list (now (entries .entry)) (now (store .entry)) (now (pattern .entry)) target) × (now (store .exit) ≡ storeAfter list (now (entries .entry)) (now (store .entry)) (now (pattern .entry))) ⌝ }
+{
+    let p = place(list, entries.len(), store, pattern, target);
+    if p.taken {
+        entries[p.at] = p.entry;
+    }
+    p.answer
+}
+
+fn wide(x: u32) -> usize
+    ensures { λ r. ⌜ r ≡ x ⌝ }
+{
+    x as usize
+}
+
+fn sum(a: u32, b: u32) -> usize
+    ensures { λ r. ⌜ r ≡ a + b ⌝ }
+{
+    a as usize + b as usize
+}
+
+fn larger(a: u32, b: u32) -> u32
+    ensures { λ r. ⌜ r ≡ max a b ⌝ }
+{
+    if a < b { b } else { a }
+}
+
+// The refusal of an entry's text, as that of the entry.
+fn refused_entry(text: Parsed) -> EntryCheck
+    ensures { λ r. ⌜ checked r ≡ invalid (parsed text) ⌝ }
+{
+    match text {
+        Parsed::Accepted(_) => EntryCheck::Sound,
+        Parsed::Refused(e) => EntryCheck::Bad(SublistError::InvalidPattern(e)),
+    }
+}
+
+// 12 before 13.
+fn check_entry(store: &[u8], index: usize, start: usize, size: usize) -> EntryCheck
+    ensures { λ r. ⌜ checked r ≡ badEntry (now (store .entry)) index (placeOf start size) ⌝ }
+{
+    if store.len() < start {
+        return EntryCheck::Bad(SublistError::BadEntry(index));
+    }
+    if store.len() - start < size {
+        return EntryCheck::Bad(SublistError::BadEntry(index));
+    }
+    let end = start + size;
+    let text = subject::parse(&store[start..end]);
+    let Parsed::Accepted(_) = text else {
+        return refused_entry(text);
+    };
+    EntryCheck::Sound
+}
+
+// The first entry that is not sound. Three numbers an entry: start, length, target.
+fn check_entries(words: &[usize], count: usize, store: &[u8]) -> EntryCheck
+    requires { ⌜ count * 3 ≤ length (now words) ⌝ }
+    ensures { λ r. ⌜ checked r ≡ badEntries (now (store .entry)) 0 (unflat count (now (words .entry))) ⌝ }
+{
+    let mut i = 0;
+    while i < count {
+        let check = check_entry(store, i, words[i * 3], words[i * 3 + 1]);
+        let EntryCheck::Sound = check else {
+            return check;
+        };
+        i += 1;
+    }
+    EntryCheck::Sound
+}
+
+// The child of a node by a token, made where it is missing.
+fn token_or_new(area: &mut [u32], count: usize, node: u32, token: &[u8]) -> Placed
+    ensures { λ r. ⌜ (r, now (area .exit)) ≡ childOrNew (now (area .entry)) count node (tokenKey (now (token .entry))) ⌝ }
+{
+    if is_star(token) {
+        return sublist_area::star_or_new(area, count, node);
+    }
+    sublist_area::literal_or_new(area, count, node, token_hash(token))
+}
+
+// A pattern's run of tokens is put in from the root.
+fn insert_pattern(area: &mut [u32], nodes: usize, text: &[u8]) -> Ended
+    requires { ⌜ (0 < nodes) × (nodes * 16 ≤ length (now area)) ⌝ }
+    ensures { λ r. ⌜ (endedAs r (now (area .exit)) ≡ runIn (Placed.At 0 nodes, now (area .entry)) (lineOf fnv (tokens (now (text .entry))) 0)) × EndFits r (length (now (area .entry))) ⌝ }
+{
+    let mut at = 0;
+    let mut node = 0;
+    let mut count = nodes;
+    while at <= text.len() {
+        let end = find_dot(text, at);
+        if is_tail(&text[at..end]) {
+            return Ended::At {
+                node,
+                tail: true,
+                count,
+            };
+        }
+        match token_or_new(area, count, node, &text[at..end]) {
+            Placed::At(id, n) => {
+                node = id;
+                count = n;
+            }
+            Placed::Full => {
+                return Ended::Full;
+            }
+            Placed::Broken => {
+                return Ended::Full;
+            }
+        }
+        at = end + 1;
+    }
+    Ended::At {
+        node,
+        tail: false,
+        count,
+    }
+}
+
+// The word that counts a node's exact or `>` targets.
+fn count_word(tail: bool) -> usize
+    ensures { λ r. ⌜ (r ≡ countWord tail) × (r < 16) ⌝ }
+{
+    if tail { 7 } else { 5 }
+}
+
+// The word where a node's exact or `>` targets start.
+fn start_word(tail: bool) -> usize
+    ensures { λ r. ⌜ (r ≡ startWord tail) × (r < 16) ⌝ }
+{
+    if tail { 6 } else { 4 }
+}
+
+// One target more of a node.
+fn count_end(area: &mut [u32], node: usize, tail: bool)
+    requires { ⌜ node * 16 + 16 ≤ length (now area) ⌝ }
+    ensures { λ _. ⌜ now (area .exit) ≡ counted (now (area .entry)) node tail ⌝ }
+{
+    let at = node * 16 + count_word(tail);
+    let more = std::num::wrapping_add_u32(area[at], 1);
+    area[at] = more;
+}
+
+// A pattern's run of tokens is put in, and its end counts it.
+fn insert_line(area: &mut [u32], nodes: usize, text: &[u8]) -> Ended
+    requires { ⌜ (0 < nodes) × (nodes * 16 ≤ length (now area)) ⌝ }
+    ensures { λ r. ⌜ (endedAs r (now (area .exit)) ≡ lineIn (growth nodes (now (area .entry)) []) (lineOf fnv (tokens (now (text .entry))) 0)) × EndFits r (length (now (area .entry))) ⌝ }
+{
+    match insert_pattern(area, nodes, text) {
+        Ended::At { node, tail, count } => {
+            count_end(area, wide(node), tail);
+            Ended::At { node, tail, count }
+        }
+        Ended::Full => Ended::Full,
+    }
+}
+
+// A number that stands for an end.
+fn end_number(node: u32, tail: bool) -> usize
+    ensures { λ r. ⌜ endOf r ≡ end node tail ⌝ }
+{
+    let twice = node as usize * 2;
+    if tail { twice + 1 } else { twice }
+}
+
+// First pass: each entry's run is put in, its end counts it and is noted.
+fn insert_entries(
+    words: &[usize],
+    count: usize,
+    store: &[u8],
+    area: &mut [u32],
+    ends: &mut [usize],
+) -> Grown
+    requires { ⌜ (count * 3 ≤ length (now words)) × (count ≤ length (now ends)) × (16 ≤ length (now area)) × (badEntries (now store) 0 (unflat count (now words)) ≡ none) ⌝ }
+    ensures { λ r. ⌜ (grownAs r (now (area .exit)) (endsOf count (now (ends .exit))) ≡ linesIn (growth 1 (now (area .entry)) []) (linesOf (now (store .entry)) (unflat count (now (words .entry))))) × AllFit r count (now (ends .exit)) (length (now (area .entry))) ⌝ }
+{
+    let mut total = 1;
+    let mut i = 0;
+    while i < count {
+        let from = words[i * 3];
+        let to = from + words[i * 3 + 1];
+        match insert_line(area, total, &store[from..to]) {
+            Ended::At {
+                node,
+                tail,
+                count: n,
+            } => {
+                ends[i] = end_number(node, tail);
+                total = n;
+            }
+            Ended::Full => {
+                return Grown::Full;
+            }
+        }
+        i += 1;
+    }
+    Grown::Nodes(total)
+}
+
+// The root, and the first pass.
+fn grow_table(
+    words: &[usize],
+    count: usize,
+    store: &[u8],
+    area: &mut [u32],
+    ends: &mut [usize],
+) -> Grown
+    requires { ⌜ (count * 3 ≤ length (now words)) × (count ≤ length (now ends)) × (badEntries (now store) 0 (unflat count (now words)) ≡ none) ⌝ }
+    ensures { λ r. ⌜ (grownAs r (now (area .exit)) (endsOf count (now (ends .exit))) ≡ allIn (unflat count (now (words .entry))) (now (store .entry)) (now (area .entry))) × AllFit r count (now (ends .exit)) (length (now (area .entry))) ⌝ }
+{
+    match sublist_area::plant(area) {
+        Placed::At(_, _) => insert_entries(words, count, store, area, ends),
+        Placed::Full => Grown::Full,
+        Placed::Broken => Grown::Full,
+    }
+}
+
+// Whether two tokens are equal keys: both `*`, or literals of equal hash. A `>` is no key.
+fn same_key(s: &[u8], t: &[u8]) -> bool
+    ensures { λ r. ⌜ r ≡ sameKey (now (s .entry)) (now (t .entry)) ⌝ }
+{
+    if is_tail(s) {
+        return false;
+    }
+    if is_tail(t) {
+        return false;
+    }
+    if is_star(s) {
+        return is_star(t);
+    }
+    if is_star(t) {
+        return false;
+    }
+    if same_bytes(s, t) {
+        return true;
+    }
+    token_hash(t) == token_hash(s)
+}
+
+// The number of keys that two patterns begin with alike.
+fn shared_run(a: &[u8], b: &[u8]) -> usize
+    ensures { λ r. ⌜ r ≡ sharedBy (now (a .entry)) (now (b .entry)) ⌝ }
+{
+    let mut shared = 0;
+    let mut i = 0;
+    let mut j = 0;
+    while i <= a.len() {
+        if b.len() < j {
+            return shared;
+        }
+        let i_end = find_dot(a, i);
+        let j_end = find_dot(b, j);
+        if !same_key(&a[i..i_end], &b[j..j_end]) {
+            return shared;
+        }
+        shared += 1;
+        i = i_end + 1;
+        j = j_end + 1;
+    }
+    shared
+}
+
+// The most keys that a pattern begins with alike with one of the first i entries.
+fn longest_shared(text: &[u8], words: &[usize], i: usize, store: &[u8]) -> usize
+    requires { ⌜ (3 * i ≤ length (now words)) × ((j : ℕ) → j < i → getD (now words) (3 * j) 0 + getD (now words) (3 * j + 1) 0 ≤ length (now store)) ⌝ }
+    ensures { λ r. ⌜ r ≡ longest (now (store .entry)) (now (text .entry)) (unflat i (now (words .entry))) ⌝ }
+{
+    let mut most = 0;
+    let mut j = 0;
+    while j < i {
+        let start = words[3 * j];
+        let end = start + words[3 * j + 1];
+        let n = shared_run(text, &store[start..end]);
+        if most < n {
+            most = n;
+        }
+        j += 1;
+    }
+    most
+}
+
+// How many nodes the entries need: the root, and for each entry its keys, less the longest run that it shares with an earlier one.
+// A pattern begins alike with itself by all its keys.
+fn nodes_needed(words: &[usize], count: usize, store: &[u8]) -> usize
+    requires { ⌜ (count ≤ 2048) × (3 * count ≤ length (now words)) × (badEntries (now store) 0 (unflat count (now words)) ≡ none) ⌝ }
+    ensures { λ r. ⌜ r ≡ needed (now (store .entry)) (unflat count (now (words .entry))) ⌝ }
+{
+    let mut needed = 1;
+    let mut i = 0;
+    while i < count {
+        let start = words[3 * i];
+        let end = start + words[3 * i + 1];
+        let keys = shared_run(&store[start..end], &store[start..end]);
+        needed += keys - longest_shared(&store[start..end], words, i, store);
+        i += 1;
+    }
+    needed
+}
+
+// A worst case, from those of the `*` child and of the literal children.
+fn worst_of(star: u32, literal: u32) -> usize
+    ensures { λ r. ⌜ r ≡ max 1 (star + literal) ⌝ }
+{
+    let both = sum(star, literal);
+    if both == 0 {
+        return 1;
+    }
+    both
+}
+
+// The worst case of a node; more than a word holds is the largest word.
+fn node_worst(area: &[u32], i: usize) -> u32
+    requires { ⌜ i * 16 + 16 ≤ length (now area) ⌝ }
+    ensures { λ r. ⌜ r ≡ nodeWorst (now (area .entry)) i ⌝ }
+{
+    let worst = worst_of(area[i * 16 + 4], area[i * 16 + 6]);
+    if 4294967295 < worst {
+        return 4294967295;
+    }
+    worst as u32
+}
+
+// A node's parent is told its worst case.
+fn tell(area: &mut [u32], i: usize)
+    requires { ⌜ i * 16 + 16 ≤ length (now area) ⌝ }
+    ensures { λ _. ⌜ now (area .exit) ≡ told (now (area .entry)) i (word (now (area .entry)) i 12) ⌝ }
+{
+    let parent = wide(area[i * 16 + 12]);
+    if i <= parent {
+        return;
+    }
+    let worst = node_worst(area, i);
+    if wide(area[parent * 16 + 3]) == i {
+        area[parent * 16 + 4] = worst;
+        return;
+    }
+    let most = larger(area[parent * 16 + 6], worst);
+    area[parent * 16 + 6] = most;
+}
+
+// Second pass: the worst case of each node, told to its parent; the answer is the root's.
+fn settle(area: &mut [u32], count: usize) -> usize
+    requires { ⌜ (0 < count) × (count * 16 ≤ length (now area)) ⌝ }
+    ensures { λ r. ⌜ (now (area .exit) ≡ settled (now (area .entry)) (count - 1)) × (r ≡ rootWorst (now (area .exit))) ⌝ }
+{
+    let mut i = count - 1;
+    while 0 < i {
+        tell(area, i);
+        i -= 1;
+    }
+    worst_of(area[4], area[6])
+}
+
+// Where the targets of a node start, exact ones before `>` ones; its counts start again at 0.
+fn lay_node(area: &mut [u32], i: usize, from: u32)
+    requires { ⌜ i * 16 + 16 ≤ length (now area) ⌝ }
+    ensures { λ _. ⌜ now (area .exit) ≡ laidAt (now (area .entry)) i from ⌝ }
+{
+    let at = i * 16;
+    let tails = std::num::wrapping_add_u32(from, area[at + 5]);
+    area[at + 4] = from;
+    area[at + 5] = 0;
+    area[at + 6] = tails;
+    area[at + 7] = 0;
+}
+
+// Where the targets behind those of a node start.
+fn after(from: u32, exact: u32, tails: u32) -> u32
+    ensures { λ r. ⌜ r ≡ (from + exact + tails) % 4294967296 ⌝ }
+{
+    ((from as u64 + exact as u64 + tails as u64) % 4294967296) as u32
+}
+
+// Third pass: the nodes' targets, one node behind the other.
+fn lay(area: &mut [u32], count: usize)
+    requires { ⌜ count * 16 ≤ length (now area) ⌝ }
+    ensures { λ _. ⌜ now (area .exit) ≡ laid (now (area .entry)) 0 count 0 ⌝ }
+{
+    let mut i = 0;
+    let mut from = 0;
+    while i < count {
+        let next = after(from, area[i * 16 + 5], area[i * 16 + 7]);
+        lay_node(area, i, from);
+        from = next;
+        i += 1;
+    }
+}
+
+// A target's place, if there is one, gets it.
+fn put_at(targets: &mut [u32], at: usize, target: u32)
+    ensures { λ _. ⌜ now (targets .exit) ≡ set (now (targets .entry)) at target ⌝ }
+{
+    if targets.len() <= at {
+        return;
+    }
+    targets[at] = target;
+}
+
+// A target is put behind those that its end has.
+fn put_target(area: &mut [u32], targets: &mut [u32], node: usize, tail: bool, target: u32)
+    requires { ⌜ node * 16 + 16 ≤ length (now area) ⌝ }
+    ensures { λ _. ⌜ filling (now (area .exit)) (now (targets .exit)) ≡ filledBy (filling (now (area .entry)) (now (targets .entry))) (end node tail) target ⌝ }
+{
+    let start = node * 16 + start_word(tail);
+    let count = node * 16 + count_word(tail);
+    put_at(targets, sum(area[start], area[count]), target);
+    count_end(area, node, tail);
+}
+
+// Fourth pass: each entry's target is put behind those that its end has.
+fn put_targets(words: &[usize], ends: &[usize], count: usize, area: &mut [u32], targets: &mut [u32])
+    requires { ⌜ (count * 3 ≤ length (now words)) × (count ≤ length (now ends)) × EndBelow count (now ends) (length (now area) / 16) ⌝ }
+    ensures { λ _. ⌜ filling (now (area .exit)) (now (targets .exit)) ≡ filled (filling (now (area .entry)) (now (targets .entry))) (endsOf count (now (ends .entry))) (targetsOf (unflat count (now (words .entry)))) ⌝ }
+{
+    let mut i = 0;
+    while i < count {
+        let end = ends[i];
+        let target = (words[i * 3 + 2] % 4294967296) as u32;
+        put_target(area, targets, end / 2, end % 2 == 1, target);
+        i += 1;
+    }
+}
+
+// 15, 16, and the other passes, over so many nodes.
+fn finish(
+    words: &[usize],
+    count: usize,
+    ends: &[usize],
+    area: &mut [u32],
+    total: usize,
+    targets: &mut [u32],
+    generation: u64,
+) -> Built
+    requires { ⌜ (count * 3 ≤ length (now words)) × (count ≤ length (now ends)) × (0 < total) × (total * 16 ≤ length (now area)) × EndBelow count (now ends) (length (now area) / 16) ⌝ }
+    ensures { λ r. ⌜ (buildAnswer r ≡ answerBy count 0 (length (now (targets .entry))) generation (growth total (now (area .entry)) (endsOf count (now (ends .entry))))) × (filling (now (area .exit)) (now (targets .exit)) ≡ leftBy count (targetsOf (unflat count (now (words .entry)))) (now (targets .entry)) (growth total (now (area .entry)) (endsOf count (now (ends .entry))))) ⌝ }
+{
+    if targets.len() < count {
+        return Built::Refused(SublistError::TargetsFull);
+    }
+    let worst_case = settle(area, total);
+    if MAX_FORK_FRONTIER < worst_case {
+        return Built::Refused(SublistError::ForkLimitExceeded {
+            worst_case,
+            limit: MAX_FORK_FRONTIER,
+        });
+    }
+    lay(area, total);
+    put_targets(words, ends, count, area, targets);
+    Built::Table {
+        nodes: total,
+        worst_case,
+        generation,
+    }
+}
+
+// Build, of the entries' numbers, three for each: 10, 12 and 13, 14, then the rest.
+fn build_words(
+    words: &[usize],
+    count: usize,
+    ends: &mut [usize],
+    store: &[u8],
+    area: &mut [u32],
+    targets: &mut [u32],
+    generation: u64,
+) -> Built
+    requires { ⌜ (6144 ≤ length (now words)) × (2048 ≤ length (now ends)) ⌝ }
+    ensures { λ r. ⌜ (buildAnswer r ≡ builtBy count (unflat count (now (words .entry))) (now (store .entry)) (now (area .entry)) (length (now (targets .entry))) generation) × (filling (now (area .exit)) (now (targets .exit)) ≡ leavesBy count (unflat count (now (words .entry))) (now (store .entry)) (now (area .entry)) (now (targets .entry))) ⌝ }
+{
+    if MAX_ENTRIES < count {
+        return Built::Refused(SublistError::TooManyEntries);
+    }
+    match check_entries(words, count, store) {
+        EntryCheck::Bad(e) => Built::Refused(e),
+        EntryCheck::Sound => match grow_table(words, count, store, area, ends) {
+            Grown::Full => Built::Refused(SublistError::NodesFull(nodes_needed(
+                words,
+                count,
+                store,
+            ))),
+            Grown::Nodes(total) => finish(words, count, ends, area, total, targets, generation),
+        },
+    }
+}
+
+// An entry's numbers are put where those of entry i belong: start, length, target.
+fn put_entry(words: &mut [usize], i: usize, e: Entry)
+    requires { ⌜ 3 * i + 3 ≤ length (now words) ⌝ }
+    ensures { λ _. ⌜ now (words .exit) ≡ putEntry (now (words .entry)) i e ⌝ }
+{
+    let at = 3 * i;
+    words[at] = e.start;
+    words[at + 1] = e.length;
+    words[at + 2] = e.target as usize;
+}
+
+// The numbers of the first n entries, three for each, are put at the start of the words; what lies behind them stays.
+fn unpack(entries: &[Entry], n: usize, words: &mut [usize])
+    requires { ⌜ (n ≤ length (now entries)) × (3 * n ≤ length (now words)) ⌝ }
+    ensures { λ _. ⌜ now (words .exit) ≡ flat (take n (now (entries .entry))) ++ drop (3 * n) (now (words .entry)) ⌝ }
+{
+    let mut i = 0;
+    while i < n {
+        put_entry(words, i, entries[i]);
+        i += 1;
+    }
+}
+
+// How many of so many entries are taken apart: no more than a list may have.
+fn least(entries: usize) -> usize
+    ensures { λ r. ⌜ r ≡ min entries 2048 ⌝ }
+{
+    if entries <= MAX_ENTRIES {
+        return entries;
+    }
+    MAX_ENTRIES
+}
+
+// The same, with room of its own for where the patterns end.
+fn build_numbers(
+    count: usize,
+    words: &mut [usize],
+    store: &[u8],
+    nodes: &mut [u32],
+    targets: &mut [u32],
+    generation: u64,
+) -> Built
+    requires { ⌜ 6144 ≤ length (now words) ⌝ }
+    ensures { λ r. ⌜ (buildAnswer r ≡ builtBy count (unflat count (now (words .entry))) (now (store .entry)) (now (nodes .entry)) (length (now (targets .entry))) generation) × (filling (now (nodes .exit)) (now (targets .exit)) ≡ leavesBy count (unflat count (now (words .entry))) (now (store .entry)) (now (nodes .entry)) (now (targets .entry))) ⌝ }
+{
+    let mut ends = [0usize; 2048];
+    build_words(words, count, &mut ends, store, nodes, targets, generation)
+}
+
+// The table of a list of entries, all of it: its nodes and targets go into the words lent for them.
+pub fn build(
+    entries: &[Entry],
+    store: &[u8],
+    nodes: &mut [u32],
+    targets: &mut [u32],
+    generation: u64,
+) -> Built
+    ensures { λ r. ⌜ (buildAnswer r ≡ buildSays (now (entries .entry)) (now (store .entry)) (length (now (nodes .entry)) / 16) (length (now (targets .entry))) generation) × (filling (now (nodes .exit)) (now (targets .exit)) ≡ buildLeaves (now (entries .entry)) (now (store .entry)) (now (nodes .entry)) (now (targets .entry))) ⌝ }
+{
+    let mut words = [0usize; 6144];
+    let n = least(entries.len());
+    unpack(entries, n, &mut words);
+    build_numbers(entries.len(), &mut words, store, nodes, targets, generation)
+}

@@ -1,0 +1,13 @@
+pub mod Indexing
+pub mod Library
+pub mod Scratches
+pub mod Arenas
+pub mod Entering
+pub mod Flattening
+pub mod Tables
+pub mod WorstCases
+pub mod Walking
+pub mod Accepting
+pub mod SameTable
+pub mod SameAnswers
+pub mod OriginalRows

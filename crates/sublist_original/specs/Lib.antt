@@ -1,0 +1,4 @@
+-- The original's functions, to be read beside its source.
+pub mod Original
+-- Our entries as its builder keeps them.
+pub mod Entries
