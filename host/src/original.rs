@@ -1,7 +1,9 @@
 //! The original's answers, in the form in which the C library gives its own.
 //! Refusals 1 and 2 are not the original's: they are decided here, by the standard library, and the original is then not called.
 use crate::ffi::Answer;
+use crate::lists::Line;
 use oracle::subject::{Subject, SubjectError, SubjectPattern};
+use oracle::sublist::{Sublist, SublistBuilder, SublistError};
 use std::str::{from_utf8, Utf8Error};
 use xxhash_rust::xxh3::xxh3_64;
 
@@ -107,4 +109,43 @@ pub fn depth_and_tail(text: &[u8]) -> (u64, bool) {
 /// The hash by which the original's table tells tokens apart.
 pub fn token_hash(token: &[u8]) -> u64 {
     xxh3_64(token)
+}
+
+/// A refusal 1 to 9, as 13 holds it.
+pub fn held(refusal: Answer) -> Answer {
+    Answer {
+        number: 13,
+        first: refusal.number,
+        second: refusal.first,
+        third: refusal.second,
+    }
+}
+
+/// `SublistBuilder`: each line is inserted, and the table is built.
+pub fn build(lines: &[Line], generation: u64) -> Result<Sublist<u32>, Answer> {
+    let mut builder = SublistBuilder::new();
+    for (pattern, target) in lines {
+        let text = text_of(pattern).map_err(|refusal| held(refusal.into()))?;
+        builder
+            .insert(text, *target)
+            .map_err(|e| held(Refusal::Original(e).into()))?;
+    }
+    builder.build(generation).map_err(|e| match e {
+        SublistError::InvalidPattern(e) => held(Refusal::Original(e).into()),
+        SublistError::ForkLimitExceeded { worst_case, limit } => Answer {
+            number: 16,
+            first: worst_case as u64,
+            second: limit as u64,
+            third: 0,
+        },
+        e => panic!("a refusal of the original without a number: {e}"),
+    })
+}
+
+/// `Sublist::match_into`: the list is put into `out`. Its length, or the refusal of the subject.
+pub fn match_subject(table: &Sublist<u32>, subject: &[u8], out: &mut Vec<u32>) -> Answer {
+    answer(subject_of(subject).map(|subject| {
+        table.match_into(&subject, out);
+        out.len() as u64
+    }))
 }

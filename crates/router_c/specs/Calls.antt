@@ -3,6 +3,8 @@ use Prim.Native.Nat.{ℕ, zero, suc}
 use mathlib.Core.Bool.{Bool, true, false}
 use mathlib.Core.List.{List, [], _∷_}
 use Rattle.subject.specs.Answers.{Answer, answer}
+use Rattle.sublist.specs.declared.ListState.{ListState}
+use Rattle.sublist_walk.specs.Matching.{Outcome, outcome}
 use Rattle.router_c.specs.declared.CAnswer.{CAnswer}
 
 -- the first n values, with zeros behind them where there are fewer
@@ -23,3 +25,11 @@ wordsOf a = a .number ∷ a .first ∷ a .second ∷ a .third ∷ []
 abbrev pub bit : Bool → ℕ
 bit true = 1
 bit false = 0
+
+-- a list of so many entries and bytes in use
+abbrev pub listOf : ℕ → ℕ → ListState
+listOf entries used = record { entries = entries; used = used }
+
+-- a match: the words of its answer, and the output afterwards
+abbrev pub inWords : Outcome → List ℕ × List ℕ
+inWords (outcome a out) = (answerWords a, out)

@@ -44,7 +44,7 @@ module _ (list : ListState) (places bytes size : ℕ) where
       says-done h = rw (lt-leb 2048 (list .entries) k, lt-leb places (list .entries) p, le-ltb (bytes - list .used) size h)
 
 -- a refusal leaves what was there
-refused-text : {A : Type 0} (new old : A) (e : SubjectError) → afterAnswer (refusal e) new old ≡ old
+pub refused-text : {A : Type 0} (new old : A) (e : SubjectError) → afterAnswer (refusal e) new old ≡ old
 refused-text new old TooLong = refl
 refused-text new old (NotUtf8 i) = refl
 refused-text new old Empty = refl

@@ -14,6 +14,7 @@ pub mod Lines
 pub mod Listed
 pub mod Local
 pub mod Needed
+pub mod Numbered
 pub mod OneMore
 pub mod Places
 pub mod Ranges

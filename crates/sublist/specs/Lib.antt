@@ -9,3 +9,4 @@ pub mod Flat
 pub mod Placing
 pub mod Core
 pub mod Sharing
+pub mod Numbers

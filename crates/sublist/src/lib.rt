@@ -19,6 +19,7 @@ ghost use Rattle.sublist.specs.Sharing.{sameKey, sharedBy, longest};
 ghost use Rattle.sublist.specs.Core.{checked, placeOf, tokenKey, runIn, endedAs, EndFits, endOf, endsOf, EndBelow, grownAs, AllFit, allIn, rootWorst, targetsOf, answerBy, leftBy, builtBy, leavesBy};
 ghost use Rattle.sublist.specs.Inserting.{insertSays, entriesAfter, storeAfter, afterAnswer, put};
 ghost use Rattle.sublist.specs.Leaving.{buildLeaves};
+ghost use Rattle.sublist.specs.Numbers.{entriesIn, numbersAfter};
 ghost use Rattle.sublist.specs.Placing.{turnedDown, decided, roomSays};
 use subject::Parsed;
 use subject::SubjectError;
@@ -647,7 +648,7 @@ fn build_words(
     targets: &mut [u32],
     generation: u64,
 ) -> Built
-    requires { ⌜ (6144 ≤ length (now words)) × (2048 ≤ length (now ends)) ⌝ }
+    requires { ⌜ (3 * min count 2048 ≤ length (now words)) × (2048 ≤ length (now ends)) ⌝ }
     ensures { λ r. ⌜ (buildAnswer r ≡ builtBy count (unflat count (now (words .entry))) (now (store .entry)) (now (area .entry)) (length (now (targets .entry))) generation) × (filling (now (area .exit)) (now (targets .exit)) ≡ leavesBy count (unflat count (now (words .entry))) (now (store .entry)) (now (area .entry)) (now (targets .entry))) ⌝ }
 {
     if MAX_ENTRIES < count {
@@ -729,4 +730,46 @@ pub fn build(
     let n = least(entries.len());
     unpack(entries, n, &mut words);
     build_numbers(entries.len(), &mut words, store, nodes, targets, generation)
+}
+
+// The same as `insert`, on a list lent as plain numbers, three an entry: start, length, target.
+pub fn insert_numbers(
+    list: ListState,
+    words: &mut [usize],
+    store: &mut [u8],
+    pattern: &[u8],
+    target: u32,
+) -> Inserted
+    ensures { λ r. ⌜ (insertAnswer r ≡ insertSays list (length (now (words .entry)) / 3) (length (now (store .entry))) (now (pattern .entry))) × (now (words .exit) ≡ numbersAfter list (now (words .entry)) (now (store .entry)) (now (pattern .entry)) target) × (now (store .exit) ≡ storeAfter list (entriesIn (now (words .entry))) (now (store .entry)) (now (pattern .entry))) ⌝ }
+{
+    let p = place(list, words.len() / 3, store, pattern, target);
+    if p.taken {
+        let at = p.at;
+        let entry = p.entry;
+        put_entry(words, at, entry);
+        return p.answer;
+    }
+    p.answer
+}
+
+// The same as `build`, of a list lent as plain numbers, all whole threes of it.
+pub fn build_from_numbers(
+    words: &[usize],
+    store: &[u8],
+    nodes: &mut [u32],
+    targets: &mut [u32],
+    generation: u64,
+) -> Built
+    ensures { λ r. ⌜ (buildAnswer r ≡ buildSays (entriesIn (now (words .entry))) (now (store .entry)) (length (now (nodes .entry)) / 16) (length (now (targets .entry))) generation) × (filling (now (nodes .exit)) (now (targets .exit)) ≡ buildLeaves (entriesIn (now (words .entry))) (now (store .entry)) (now (nodes .entry)) (now (targets .entry))) ⌝ }
+{
+    let mut ends = [0usize; 2048];
+    build_words(
+        words,
+        words.len() / 3,
+        &mut ends,
+        store,
+        nodes,
+        targets,
+        generation,
+    )
 }

@@ -1,8 +1,13 @@
 //! Compares the router, through its C calls, with the original on the same inputs, and counts. The first difference is printed and ends the run with status 1.
 //!
 //! compare [--seconds N] [--seed N]
-//! The exhaustive parts run whole. The random parts make a fixed number of comparisons, or go on for N seconds.
+//! The exhaustive parts and those at the limits run whole. The two random parts, texts and tables, make a fixed number of turns, or go on for N seconds each.
 mod exhaustive;
+mod hostile;
+mod kinds;
+mod limits;
+mod short_lists;
+mod tables;
 mod tally;
 mod texts;
 
@@ -12,7 +17,8 @@ use std::time::{Duration, Instant};
 use tally::Tally;
 
 /// Turns of the random parts where no time is given.
-const TURNS: u64 = 1_000_000;
+const TEXT_TURNS: u64 = 1_000_000;
+const TABLE_TURNS: u64 = 1_500;
 
 struct Options {
     seconds: Option<u64>,
@@ -36,17 +42,40 @@ fn options() -> Option<Options> {
     Some(options)
 }
 
-fn random_parts(tally: &mut Tally, options: &Options) {
-    let mut random = Random::new(options.seed);
+/// Takes a turn again and again, for so many turns, or for the time that is given. How many turns it took.
+fn repeat(options: &Options, most: u64, mut turn: impl FnMut()) -> u64 {
     let end = options
         .seconds
         .map(|n| Instant::now() + Duration::from_secs(n));
     let mut turns = 0;
-    while end.map_or(turns < TURNS, |end| Instant::now() < end) {
-        texts::turn(tally, &mut random);
+    while end.map_or(turns < most, |end| Instant::now() < end) {
+        turn();
         turns += 1;
     }
-    tally.report(&format!("random and damaged texts, {turns} turns"));
+    turns
+}
+
+/// A kind of list, how often it is drawn in a turn, and once in how many turns.
+type Kind = (fn(&mut Tally, &mut Random), u64, u64);
+
+const KINDS: [Kind; 7] = [
+    (kinds::yard, 1, 1),
+    (kinds::near_limit, 1, 5),
+    (kinds::dense, 1, 4),
+    (kinds::deep, 1, 2),
+    (kinds::equal_lines, 1, 4),
+    (kinds::clashing, 4, 1),
+    (kinds::small, 40, 1),
+];
+
+fn table_turn(tally: &mut Tally, random: &mut Random) {
+    for (kind, times, turns) in KINDS {
+        if random.once_in(turns as usize) {
+            for _ in 0..times {
+                kind(tally, random);
+            }
+        }
+    }
 }
 
 fn main() -> ExitCode {
@@ -56,7 +85,20 @@ fn main() -> ExitCode {
     };
     let began = Instant::now();
     let mut tally = Tally::default();
+    let mut random = Random::new(options.seed);
     exhaustive::run(&mut tally);
-    random_parts(&mut tally, &options);
+    short_lists::run(&mut tally, &mut random);
+    limits::inserts(&mut tally, &mut random);
+    limits::builds(&mut tally, &mut random);
+    limits::runs(&mut tally, &mut random);
+    hostile::run(&mut tally, &mut random);
+    let turns = repeat(&options, TEXT_TURNS, || {
+        texts::turn(&mut tally, &mut random)
+    });
+    tally.report(&format!("random and damaged texts, {turns} turns"));
+    let turns = repeat(&options, TABLE_TURNS, || {
+        table_turn(&mut tally, &mut random)
+    });
+    tally.report(&format!("random lists of seven kinds, {turns} turns"));
     tally.close(began.elapsed())
 }

@@ -1,38 +1,87 @@
 //! The comparisons themselves, and their count.
 use host::ffi::{self, Answer};
+use host::lists::Line;
 use host::original;
+use std::collections::BTreeMap;
 use std::fmt::Debug;
 use std::process::{exit, ExitCode};
 use std::time::Duration;
 
-/// Refusals 1 to 9 and, at 0, acceptance.
-const NUMBERS: usize = 10;
+/// The numbers that the inputs must bring up.
+const NUMBERS: [u64; 20] = [
+    0, 1, 2, 3, 4, 5, 6, 7, 8, 9, 10, 11, 12, 13, 14, 15, 16, 19, 21, 99,
+];
 
 #[derive(Default)]
 pub struct Tally {
     total: u64,
     reported: u64,
-    answers: [u64; NUMBERS],
-    /// Matches that were answered by no and by yes.
+    answers: BTreeMap<u64, u64>,
+    /// Matches of a pattern that were answered by no and by yes.
     verdicts: [u64; 2],
+    /// Tables built, and matches on tables.
+    pub builds: u64,
+    pub matches: u64,
+    pub largest_table: u64,
+    pub largest_peak: u64,
+}
+
+/// Says what differs and ends the run.
+fn differs<T: Debug>(call: &str, inputs: &str, ours: T, theirs: T) -> ! {
+    eprintln!("{call} differs\n{inputs}  the router: {ours:?}\n  as it should be: {theirs:?}");
+    exit(1)
+}
+
+fn shown(texts: &[&[u8]]) -> String {
+    let line = |text: &&[u8]| format!("  on {text:02x?} \"{}\"\n", text.escape_ascii());
+    texts.iter().map(line).collect()
+}
+
+fn shown_lines(lines: &[Line]) -> String {
+    let line = |(pattern, target): &Line| format!("  {target} {}\n", pattern.escape_ascii());
+    lines.iter().map(line).collect()
 }
 
 impl Tally {
     fn compare<T: PartialEq + Debug>(&mut self, call: &str, inputs: &[&[u8]], ours: T, theirs: T) {
-        if ours != theirs {
-            eprintln!("{call} differs");
-            for input in inputs {
-                eprintln!("  on {input:02x?} \"{}\"", input.escape_ascii());
-            }
-            eprintln!("  the router: {ours:?}\n  as it should be: {theirs:?}");
-            exit(1);
-        }
-        self.total += 1;
+        self.compare_on(call, || shown(inputs), ours, theirs);
     }
 
     fn compare_answers(&mut self, call: &str, inputs: &[&[u8]], ours: Answer, theirs: Answer) {
         self.compare(call, inputs, ours, theirs);
-        self.answers[theirs.number as usize] += 1;
+        self.met(theirs);
+    }
+
+    /// Compares two values; what they were got from is asked for where they differ.
+    pub fn compare_on<T: PartialEq + Debug>(
+        &mut self,
+        call: &str,
+        inputs: impl FnOnce() -> String,
+        ours: T,
+        theirs: T,
+    ) {
+        if ours != theirs {
+            differs(call, &inputs(), ours, theirs);
+        }
+        self.total += 1;
+    }
+
+    /// Compares two values got from a list of lines, and from a text.
+    pub fn compare_list<T: PartialEq + Debug>(
+        &mut self,
+        call: &str,
+        lines: &[Line],
+        text: &[u8],
+        ours: T,
+        theirs: T,
+    ) {
+        let inputs = || shown_lines(lines) + &shown(&[text]);
+        self.compare_on(call, inputs, ours, theirs);
+    }
+
+    /// An answer came up.
+    pub fn met(&mut self, answer: Answer) {
+        *self.answers.entry(answer.number).or_default() += 1;
     }
 
     /// A text as a subject and as a pattern, its depth, and whether it ends in `>`.
@@ -77,9 +126,16 @@ impl Tally {
     /// Says what was met in all. An answer that never came up means that the inputs miss a rule, and fails.
     pub fn close(&self, took: Duration) -> ExitCode {
         let [no, yes] = self.verdicts;
-        println!("answers by number, from 0: {:?}", self.answers);
-        println!("matches: {yes} yes, {no} no");
-        if self.answers.contains(&0) || self.verdicts.contains(&0) {
+        println!("answers by number: {:?}", self.answers);
+        println!("matches of a pattern: {yes} yes, {no} no");
+        println!(
+            "tables: {} built, {} matches on them; the largest has {} nodes, the largest peak is {}",
+            self.builds, self.matches, self.largest_table, self.largest_peak
+        );
+        let all_met = NUMBERS
+            .iter()
+            .all(|number| self.answers.contains_key(number));
+        if !all_met || self.verdicts.contains(&0) {
             eprintln!("an answer never came up");
             return ExitCode::FAILURE;
         }

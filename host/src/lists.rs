@@ -1,0 +1,70 @@
+//! Lists of patterns of several kinds, and subjects for them.
+use crate::random::Random;
+
+/// A pattern and its target.
+pub type Line = (Vec<u8>, u32);
+
+/// Two tokens that have one hash, also with any common text behind both.
+pub const CLASH: [&str; 2] = ["8yn0iYCKYHlIj4-BwPqk", "GReLUrM4wMqfg9yzV3KQ"];
+
+const AREAS: [&str; 8] = [
+    "north",
+    "south",
+    "east",
+    "west",
+    "depot-1",
+    "depot-2",
+    "hall-3",
+    "weiche-ö",
+];
+
+const DEVICES: [(&str, [&str; 3]); 6] = [
+    ("points", ["set", "locked", "state"]),
+    ("signal", ["aspect", "lamp", "state"]),
+    ("track", ["occupied", "locked", "current"]),
+    ("crossing", ["close", "open", "state"]),
+    ("vehicle", ["position", "speed", "door"]),
+    ("panel", ["key", "lamp", "alarm"]),
+];
+
+/// The devices of one kind in one area.
+const NUMBERS: usize = 40;
+
+/// A subject of the yard: `yard.north.points.17.set`.
+pub fn yard_subject(random: &mut Random) -> Vec<u8> {
+    let area = random.pick(&AREAS);
+    let (device, actions) = DEVICES[random.below(DEVICES.len())];
+    let action = random.pick(&actions);
+    format!("yard.{area}.{device}.{}.{action}", random.below(NUMBERS)).into_bytes()
+}
+
+/// A pattern of the yard: a subject, or one with wildcards, as `yard.*.points.>`.
+fn yard_pattern(random: &mut Random) -> Vec<u8> {
+    let subject = yard_subject(random);
+    let mut tokens: Vec<&[u8]> = subject.split(|&byte| byte == b'.').collect();
+    match random.below(12) {
+        0 => tokens[1] = b"*",
+        1 | 2 => tokens[3] = b"*",
+        3 => tokens[4] = b"*",
+        4 => {
+            tokens[1] = b"*";
+            tokens[3] = b"*";
+        }
+        5 => tokens.splice(3.., [&b">"[..]]).for_each(drop),
+        6 if random.once_in(4) => {
+            tokens[1] = b"*";
+            tokens.splice(3.., [&b">"[..]]).for_each(drop);
+        }
+        7 if random.once_in(8) => tokens.splice(2.., [&b">"[..]]).for_each(drop),
+        8 if random.once_in(40) => tokens.splice(1.., [&b">"[..]]).for_each(drop),
+        _ => (),
+    }
+    tokens.join(&b'.')
+}
+
+/// A list as a yard has it: panels, each with the patterns that it listens to.
+pub fn yard(random: &mut Random, count: usize) -> Vec<Line> {
+    (0..count)
+        .map(|_| (yard_pattern(random), random.below(60) as u32))
+        .collect()
+}
