@@ -1,9 +1,13 @@
-// Runs texts at the limits of the grammar, and the published vectors of 64-bit FNV-1a, and says of each what came out and whether that is right.
-// The vectors are those of the FNV reference code by Fowler, Noll and Vo.
+// Runs texts at the limits of the grammar, lists at the limit of a table's worst case, and the published vectors of 64-bit FNV-1a, and says of each what
+// came out and whether that is right. The vectors are those of the FNV reference code by Fowler, Noll and Vo.
 use router_c::CAnswer;
+use router_c::router_build;
+use router_c::router_insert;
 use router_c::router_parse;
 use router_c::router_parse_literal;
 use router_c::router_token_hash;
+ghost use Prim.Native.Nat.{_≤_};
+ghost use lib.ListN.{length};
 
 fn say(text: &[u8]) {
     io::write_all(1, text);
@@ -36,8 +40,8 @@ fn is_answer(a: CAnswer, number: u64, first: u64, second: u64) -> bool {
     a.third == 0
 }
 
-// One line for a text: the number and the values of its answer.
-fn text_row(name: &[u8], got: CAnswer, number: u64, first: u64, second: u64) {
+// One line for an answer: its number and its values.
+fn row(name: &[u8], got: CAnswer, number: u64, first: u64, second: u64) {
     say(name);
     say_number(got.number);
     say_number(got.first);
@@ -57,37 +61,37 @@ fn hash_row(text: &[u8], right: u64) {
 
 fn limits() {
     let most = b"a.a.a.a.a.a.a.a.a.a.a.a.a.a.a.a.a.a.a.a.a.a.a.a.a.a.a.a.a.a.a.a";
-    text_row(
+    row(
         b"32 tokens, a subject:",
         router_parse_literal(most),
         0,
         32,
         0,
     );
-    text_row(b"32 tokens, a pattern:", router_parse(most), 0, 32, 0);
+    row(b"32 tokens, a pattern:", router_parse(most), 0, 32, 0);
     let deep = b"a.a.a.a.a.a.a.a.a.a.a.a.a.a.a.a.a.a.a.a.a.a.a.a.a.a.a.a.a.a.a.a.a";
-    text_row(
+    row(
         b"33 tokens, a subject:",
         router_parse_literal(deep),
         5,
         33,
         0,
     );
-    text_row(b"33 tokens, a pattern:", router_parse(deep), 5, 33, 0);
+    row(b"33 tokens, a pattern:", router_parse(deep), 5, 33, 0);
     let tail = b"a.a.a.a.a.a.a.a.a.a.a.a.a.a.a.a.a.a.a.a.a.a.a.a.a.a.a.a.a.a.a.>.a";
-    text_row(b"> as 32nd of 33, a pattern:", router_parse(tail), 4, 31, 0);
+    row(b"> as 32nd of 33, a pattern:", router_parse(tail), 4, 31, 0);
 }
 
 fn characters() {
-    text_row(
+    row(
         b"bytes 61 C0 80:",
         router_parse_literal(b"a\xc0\x80"),
         2,
         1,
         0,
     );
-    text_row(b"bytes C2 80:", router_parse_literal(b"\xc2\x80"), 0, 1, 0);
-    text_row(b"byte 7F:", router_parse_literal(b"\x7f"), 8, 0x7f, 0);
+    row(b"bytes C2 80:", router_parse_literal(b"\xc2\x80"), 0, 1, 0);
+    row(b"byte 7F:", router_parse_literal(b"\x7f"), 8, 0x7f, 0);
 }
 
 fn hashes() {
@@ -110,8 +114,104 @@ fn hashes() {
     hash_row(b"chongo", 0xe150688c8217b8fd);
 }
 
+fn token(star: bool) -> u8 {
+    if star { b'*' } else { b'a' }
+}
+
+// Writes the run of ten tokens out of `a` and `*` whose stars are the bits of a number, between the dots of a text.
+fn put_run(text: &mut [u8], number: usize)
+    requires { ⌜ 19 ≤ length (now text) ⌝ }
+{
+    let mut rest = number;
+    let mut i = 0;
+    while i < 10 {
+        text[i * 2] = token(rest % 2 == 1);
+        rest = rest / 2;
+        i += 1;
+    }
+}
+
+// Inserts all 1,024 runs into an empty list; the last answer.
+fn insert_runs(text: &mut [u8], words: &mut [usize], store: &mut [u8]) -> CAnswer
+    requires { ⌜ 19 ≤ length (now text) ⌝ }
+{
+    put_run(text, 0);
+    let mut last = router_insert(0, 0, words, store, text, 0);
+    let mut number: usize = 1;
+    while number < 1024 {
+        put_run(text, number);
+        let entries = last.first as usize;
+        let used = last.second as usize;
+        last = router_insert(entries, used, words, store, text, number as u32);
+        number += 1;
+    }
+    last
+}
+
+// The all-star run, followed by `.a` and by `.*`.
+fn insert_two_more(words: &mut [usize], store: &mut [u8]) -> CAnswer {
+    let one = router_insert(1024, 19456, words, store, b"*.*.*.*.*.*.*.*.*.*.a", 1024);
+    let entries = one.first as usize;
+    let used = one.second as usize;
+    router_insert(entries, used, words, store, b"*.*.*.*.*.*.*.*.*.*.*", 1025)
+}
+
+// All runs of ten tokens out of `a` and `*`: accepted.
+fn accepted_rows(
+    text: &mut [u8],
+    words: &mut [usize],
+    store: &mut [u8],
+    nodes: &mut [u32],
+    targets: &mut [u32],
+)
+    requires { ⌜ (19 ≤ length (now text)) × (3072 ≤ length (now words)) ⌝ }
+{
+    let all = insert_runs(text, words, store);
+    row(
+        b"the 1,024 runs of ten tokens, inserted:",
+        all,
+        0,
+        1024,
+        19456,
+    );
+    let table = router_build(&words[..3072], store, nodes, targets, 0);
+    row(b"their table, nodes and worst case:", table, 0, 2047, 1024);
+}
+
+// With two more: refused.
+fn refused_rows(words: &mut [usize], store: &mut [u8], nodes: &mut [u32], targets: &mut [u32]) {
+    let all = insert_two_more(words, store);
+    row(
+        b"the all-star run with .a and with .*, inserted:",
+        all,
+        0,
+        1026,
+        19498,
+    );
+    let table = router_build(words, store, nodes, targets, 0);
+    row(
+        b"the table with these, worst case and limit:",
+        table,
+        16,
+        1025,
+        1024,
+    );
+}
+
+// The areas for the rows of runs.
+fn runs() {
+    let mut text = [b'.'; 19];
+    let mut words = [0usize; 3078];
+    let mut store = [0u8; 19498];
+    let mut nodes = [0u32; 32784];
+    let mut targets = [0u32; 1026];
+    accepted_rows(&mut text, &mut words, &mut store, &mut nodes, &mut targets);
+    refused_rows(&mut words, &mut store, &mut nodes, &mut targets);
+}
+
 fn main() {
     limits();
     characters();
+    runs();
     hashes();
 }
