@@ -227,3 +227,37 @@ pub fn runs(tally: &mut Tally, random: &mut Random) {
     tables::build(tally, random, &lines);
     tally.report("the 1,024 runs of ten tokens, and two more");
 }
+
+/// A build into areas that just hold it, one that lacks a node or a target, and matches on it.
+fn tight(tally: &mut Tally, random: &mut Random, lines: &[Line]) {
+    let (words, store) = packed(lines);
+    let nodes = NODE_WORDS * Tree::new(lines).node_count();
+    for (nodes, targets) in [
+        (nodes, lines.len()),
+        (nodes - 1, lines.len()),
+        (nodes, lines.len() - 1),
+    ] {
+        build_any(tally, &words, &store, nodes, targets, random.draw());
+    }
+    let Some(sides) = tables::build(tally, random, lines) else {
+        panic!("a list of literal patterns is refused");
+    };
+    for _ in 0..200 {
+        let line = random.below(lines.len());
+        sides.subject(tally, random, &lines[line].0);
+    }
+}
+
+/// The tables with the most nodes and with the longest texts: 2,048 patterns of 32 tokens that share none, and 2,048 of 4,096 bytes.
+pub fn largest(tally: &mut Tally) {
+    let mut random = Random::new(1);
+    let deep = |number: usize| format!("{number}{}", ".a".repeat(31)).into_bytes();
+    let long = |number: usize| format!("{number:0>4}.{}", "b".repeat(4091)).into_bytes();
+    for pattern in [&deep as &dyn Fn(usize) -> Vec<u8>, &long] {
+        let lines: Vec<Line> = (0..MAX_ENTRIES)
+            .map(|number| (pattern(number), number as u32))
+            .collect();
+        tight(tally, &mut random, &lines);
+    }
+    tally.report("the lists with the most nodes and with the longest texts");
+}

@@ -100,5 +100,6 @@ fn main() -> ExitCode {
         table_turn(&mut tally, &mut random)
     });
     tally.report(&format!("random lists of seven kinds, {turns} turns"));
+    limits::largest(&mut tally);
     tally.close(began.elapsed())
 }
