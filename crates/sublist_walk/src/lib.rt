@@ -425,7 +425,7 @@ fn match_fresh(
 }
 
 // 19 on the counts: there is a node, and neither count exceeds its area.
-fn counts_fit(nodes: usize, targets: usize, area: &[u32], store: &[u32]) -> bool
+pub fn counts_fit(nodes: usize, targets: usize, area: &[u32], store: &[u32]) -> bool
     ensures { λ r. ⌜ r ≡ countsFit nodes targets (now (area .entry)) (now (store .entry)) ⌝ }
 {
     if nodes == 0 {

@@ -1,0 +1,31 @@
+-- An accepted build's areas hold the tree of its entries: the last of the laws that demand 3 asks of tables.
+use Prim.Native.Nat.{ℕ, _/_}
+use mathlib.Core.Path.{_≡_, refl, sym, ap, _∙_, subst}
+use mathlib.Core.List.{List, [], _∷_}
+use lib.ListN.{length, getD}
+use Rattle.subject.specs.Fnv.{fnv}
+use Rattle.sublist_tree.specs.Table.{TableEntry, rootOf}
+use Rattle.sublist_walk.specs.Holds.{Holds}
+use Rattle.sublist.specs.Entries.{readFrom}
+use Rattle.sublist.specs.Building.{needed}
+use Rattle.sublist.specs.Passes.{Filling, filling}
+use Rattle.sublist.proofs.Filling.{nodesIn, targetsIn}
+use Rattle.sublist.proofs.Builds.{taken, build-stands}
+use Rattle.sublist_snapshot.specs.Snapshot.{Table}
+use Rattle.binding.specs.Demand.{Laws}
+use Rattle.binding.specs.Built.{BuiltFrom}
+use Rattle.binding.proofs.Builds.{build-laws}
+
+pub table-holds : (t : Table) (es : List TableEntry) → BuiltFrom t es → Holds (t .nodeWords) (t .nodes) (t .targets) (t .targetWords) (rootOf fnv es)
+table-holds t es f =
+    let k = taken (f .list) (f .store) (length (f .nodesLent) / 16) (length (f .targetsLent)) (t .generation .0) (t .nodes ∷ f .worstCase ∷ t .generation .0 ∷ []) (f .accepted) in
+    let n : needed (f .store) (f .list) ≡ t .nodes = ap (λ vs. getD vs 0 0) (sym (k .1)) in
+    subst (λ l. Holds (t .nodeWords) (t .nodes) (t .targets) (t .targetWords) (rootOf fnv l)) (f .textsRead)
+    (subst (λ m. Holds (t .nodeWords) (t .nodes) m (t .targetWords) (rootOf fnv (readFrom (f .store) (f .list)))) (sym (f .oneEach))
+    (subst (λ x. Holds (t .nodeWords) x (length (f .list)) (t .targetWords) (rootOf fnv (readFrom (f .store) (f .list)))) n
+    (subst (λ g. Holds (nodesIn g) (needed (f .store) (f .list)) (length (f .list)) (targetsIn g) (rootOf fnv (readFrom (f .store) (f .list)))) (f .areasLeft)
+    (build-stands (f .list) (f .store) (f .nodesLent) (f .targetsLent) (k .0)))))
+
+-- the laws, with nothing left open
+pub laws : Laws
+laws = build-laws table-holds

@@ -1,0 +1,159 @@
+-- Demand 3, stated: "Stores, clears, matches and resolves may be interleaved in any way."
+use Prim.Native.Nat.{ℕ, zero, suc, _≤_, _<_, _^_, max}
+use mathlib.Core.Path.{_≡_}
+use mathlib.Core.Bool.{false}
+use mathlib.Core.List.{List, [], _∷_, _++_, map}
+use lib.Dec.{eqb, ltb}
+use lib.ListN.{length}
+use Rattle.subject.specs.Choice.{pick}
+use Rattle.subject.specs.Text.{same, tokens}
+use Rattle.subject.specs.Fnv.{fnv}
+use Rattle.subject.specs.Answers.{Answer, answer}
+use Rattle.subject.specs.Grammar.{grammar}
+use Rattle.sublist_tree.specs.Lists.{concat, sum, sort, All}
+use Rattle.sublist_tree.specs.Tree.{targetOf, worst}
+use Rattle.sublist_tree.specs.Due.{precedes}
+use Rattle.sublist_tree.specs.Nodes.{peakOf}
+use Rattle.sublist_tree.specs.Table.{TableEntry, rootOf, Accepted, matchingEntries, literals}
+use Rattle.sublist_walk.specs.Holds.{Holds}
+use Rattle.sublist_snapshot.specs.Snapshot.{Table, lengthOf, first, snapshotNumbers, make}
+use Rattle.resolve_cache.specs.Area.{Area}
+use Rattle.resolve_cache.specs.Cache.{short, fresh, cacheNumbers, withCapacity}
+use Rattle.binding.specs.Verdict.{singleHome}
+use Rattle.binding.specs.Calls.{Call, store, clearing, asking, resolving, Reply, refused, storing, cleared, matched, resolved, Cabinet, reply, after}
+
+-- "the targets due are those of the standing table's entries that match, once per entry, in 01's order"
+abbrev pub due : List TableEntry → List ℕ → List ℕ
+due es subject = map targetOf (sort (precedes same) (rootOf (λ t. t) (matchingEntries (tokens subject) es)))
+
+-- 01's peak and worst case, literals compared by hash
+abbrev pub peakDue : List TableEntry → List ℕ → ℕ
+peakDue es subject = peakOf eqb (map fnv (tokens subject)) (rootOf fnv es)
+
+abbrev pub worstOf : List TableEntry → ℕ
+worstOf es = worst eqb 32 (rootOf fnv es)
+
+-- the standing table's entries, the number of accepted stores, and the words of the snapshot's area
+pub record Standing : Type 0 where
+  pub entries : List TableEntry
+  pub stores : ℕ
+  pub room : ℕ
+
+-- the standing table is the first before any store
+abbrev pub start : List TableEntry → List ℕ → Standing
+start es area = record { entries = es; stores = 0; room = length area }
+
+-- and that of the last accepted store after it
+abbrev pub standingAfter : Standing → Call → Standing
+standingAfter s (store t es) = pick (ltb (s .room) (lengthOf t)) s (record { entries = es; stores = suc (s .stores); room = s .room })
+standingAfter s (clearing i) = s
+standingAfter s (asking subject out) = s
+standingAfter s (resolving i subject out) = s
+
+-- a refused text is refused as the grammar numbers it
+abbrev pub textFirst : Answer → Reply → Reply
+textFirst (answer zero values) given = given
+textFirst (answer (suc k) values) given = refused (answer (suc k) values)
+
+-- "The call is refused exactly when 01 refuses its subject's text or more targets are due than its output holds. Otherwise its list equals the targets due"
+abbrev pub demanded : List ℕ → List ℕ → ℕ → (List ℕ → Reply) → Reply
+demanded dues subject room given = textFirst (grammar false subject) (pick (ltb room (length dues)) (refused (answer 21 (length dues ∷ []))) (given dues))
+
+-- what is asked of the reply to one call
+abbrev pub Right : Standing → Call → Reply → Type 0
+-- a store is refused exactly when the snapshot's area is shorter than its table, and otherwise returns its generation, which is its number among the accepted stores
+Right s (store t es) r = r ≡ pick (ltb (s .room) (lengthOf t)) (refused (answer 20 [])) (storing (suc (s .stores)))
+-- a clear is never refused
+Right s (clearing i) r = r ≡ cleared
+-- the verdict is that of the list; the peak is 01's, and at most the worst case, which is at most 1,024; the generation is the standing table's
+Right s (asking subject out) r =
+    (r ≡ demanded (due (s .entries) subject) subject (length out) (λ list. matched list (singleHome list) (peakDue (s .entries) subject) (s .stores)))
+    × (peakDue (s .entries) subject ≤ worstOf (s .entries)) × (worstOf (s .entries) ≤ 1024)
+Right s (resolving i subject out) r =
+    r ≡ demanded (due (s .entries) subject) subject (length out) (λ list. resolved list (singleHome list))
+
+-- each call takes states and areas as the last call on them, refused or not, returned and left them
+abbrev pub EachRight : Standing → Cabinet → List Call → Type 0
+EachRight s b [] = Unit {0}
+EachRight s b (c ∷ cs) = Right s c (reply b c) × EachRight (standingAfter s c) (after b c) cs
+
+-- the same of calls as they happened, each with its reply and the cabinet as it left it
+abbrev pub Happened : Cabinet → List (Call × Reply × Cabinet) → Type 0
+Happened b [] = Unit {0}
+Happened b (x ∷ xs) = (x .1 ≡ reply b (x .0)) × (x .2 ≡ after b (x .0)) × Happened (x .2) xs
+
+abbrev pub AllRight : Standing → List (Call × Reply × Cabinet) → Type 0
+AllRight s [] = Unit {0}
+AllRight s (x ∷ xs) = Right s (x .0) (x .1) × AllRight (standingAfter s (x .0)) xs
+
+-- the making of the snapshot is refused exactly when its area is shorter than the first table, with 20, for a built table's counts are within its areas (19)
+abbrev pub SnapshotRight : Table → List ℕ → Type 0
+SnapshotRight t area = (make t area) .says ≡ pick (ltb (length area) (lengthOf t)) (answer 20 []) (answer 0 (snapshotNumbers (first t)))
+
+-- the making of a cache is refused exactly when its capacity, 0 turned into 1, is over 1,024 or its area is smaller than so many slots (17)
+abbrev pub CacheRight : ℕ → Area → Type 0
+CacheRight n a = withCapacity n a ≡ pick (short (max 1 n) a) (answer 17 []) (answer 0 (cacheNumbers (fresh (max 1 n))))
+
+-- "one fresh snapshot and fresh caches used with it alone": the states that accepted makings returned, and the areas that they left
+pub record Opened (t : Table) (area : List ℕ) (b : Cabinet) : Type 0 where
+  pub snapshotMade : make t area ≡ record { says = answer 0 (snapshotNumbers (b .snapshot)); area = b .words }
+  pub cachesMade : (i : ℕ) → (n : ℕ) × (withCapacity n (b .caches i .area) ≡ answer 0 (cacheNumbers (b .caches i .cache)))
+
+-- what the build's own theorem hands over
+pub record Laws : Type 1 where
+  -- an accepted build read these entries, and left this table in these areas
+  pub Built : Table → List TableEntry → Type 0
+  pub built-accepted : (t : Table) (es : List TableEntry) → Built t es → All Accepted es
+  pub built-worst : (t : Table) (es : List TableEntry) → Built t es → worstOf es ≤ 1024
+  pub built-holds : (t : Table) (es : List TableEntry) → Built t es → Holds (t .nodeWords) (t .nodes) (t .targets) (t .targetWords) (rootOf fnv es)
+
+-- "The tables come from accepted builds and are lent with their areas as build left them"
+abbrev pub Lent : Laws → Call → Type 0
+Lent laws (store t es) = laws .Built t es
+Lent laws (clearing i) = Unit {0}
+Lent laws (asking subject out) = Unit {0}
+Lent laws (resolving i subject out) = Unit {0}
+
+abbrev pub isStore : Call → ℕ
+isStore (store t es) = 1
+isStore (clearing i) = 0
+isStore (asking subject out) = 0
+isStore (resolving i subject out) = 0
+
+abbrev pub storesIn : List Call → ℕ
+storesIn calls = sum (map isStore calls)
+
+-- the literal tokens in play: those of all tables' entries and of all subjects
+abbrev pub tokensOf : List TableEntry → List (List ℕ)
+tokensOf es = concat (map (λ e. literals (tokens (e .pattern))) es)
+
+abbrev pub tokensIn : Call → List (List ℕ)
+tokensIn (store t es) = tokensOf es
+tokensIn (clearing i) = []
+tokensIn (asking subject out) = literals (tokens subject)
+tokensIn (resolving i subject out) = literals (tokens subject)
+
+abbrev pub inPlay : List TableEntry → List Call → List (List ℕ)
+inPlay es calls = tokensOf es ++ concat (map tokensIn calls)
+
+-- no two of them that differ share a hash
+abbrev pub HashedApart : List (List ℕ) → Type 0
+HashedApart ts = All (λ t. All (λ u. fnv t ≡ fnv u → t ≡ u) ts) ts
+
+-- the first table with the entries that its build read, and the calls
+pub record Premises (laws : Laws) (t : Table) (es : List TableEntry) (calls : List Call) : Type 0 where
+  -- "The tables come from accepted builds and are lent with their areas as build left them"
+  pub built : laws .Built t es
+  pub lent : All (Lent laws) calls
+  -- "the first of generation 0"
+  pub zeroth : t .generation .0 ≡ 0
+  -- "There are fewer than 2^64 stores"
+  pub few : storesIn calls < 2 ^ 64
+  -- "and no two different literal tokens in play share a hash"
+  pub apart : HashedApart (inPlay es calls)
+
+-- demand 3: the makings and every call
+pub record Met (t : Table) (es : List TableEntry) (area : List ℕ) (b : Cabinet) (calls : List Call) : Type 0 where
+  pub snapshotRight : SnapshotRight t area
+  pub cachesRight : (n : ℕ) (a : Area) → CacheRight n a
+  pub callsRight : Opened t area b → EachRight (start es area) b calls

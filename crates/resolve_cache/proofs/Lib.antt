@@ -1,0 +1,9 @@
+pub mod Decisions
+pub mod Faithful
+pub mod Handing
+pub mod Keeping
+pub mod Put
+pub mod Rows
+pub mod Scans
+pub mod Slots
+pub mod Writes

@@ -1,0 +1,68 @@
+-- `resolve_cache::find` meets its contract. The loop's invariant: the first slot from `i` on that keeps the subject is the first of all. Assumes nothing.
+use Prim.Native.Nat.{_*_, _-_, _≤_}
+use native.Mathlib.Omega.{arith}
+use mathlib.Core.Path.{_≡_, sym, _∙_, ap}
+use lib.ListN.{length}
+use borrow.Author.Needs.{needs}
+use Rattle.resolve_cache.specs.Cache.{findFrom}
+use Rattle.resolve_cache.proofs.Scans.{find-end, found-here, look-on}
+use Rattle.resolve_cache.proofs.find.Statement.{statement}
+use Rattle.resolve_cache.proofs.find.Tie as tie
+
+abbrev Inv-loop : tie.InvT-loop
+Inv-loop heads keys n subject i₀ i = (i ≤ n) × (n ≤ 1024) × (3 * n ≤ length heads) × (256 * n ≤ length keys) × (findFrom heads keys subject i (n - i) ≡ findFrom heads keys subject 0 n)
+
+abbrev μ-loop : tie.MeasureT-loop
+μ-loop heads keys n subject i₀ i = n - i
+
+loop-holds : tie.Need-loop-holds Inv-loop μ-loop
+loop-holds c =
+    let a = c .before .before .before .args in
+    (omega arith, omega arith, omega arith, omega arith, ap (findFrom (a .heads .now) (a .keys .now) (a .subject .now) 0) (let e : a .n - 0 ≡ a .n = omega arith in e))
+
+keeps-requires : tie.Need-keeps-requires Inv-loop μ-loop
+keeps-requires c κs =
+    let s = c .before .before .before .before .before in
+    (omega arith, omega arith, omega arith, s .pre .1 (c .before .loop .i) (omega arith))
+
+returns : tie.Need-returns Inv-loop μ-loop
+returns c =
+    let a = c .before .before .before .before .before .before .before .args in
+    let l = c .before .before .before .loop in
+    found-here (a .heads .now) (a .keys .now) (a .subject .now) (l .i) (a .n) (findFrom (a .heads .now) (a .keys .now) (a .subject .now) 0 (a .n)) (omega arith) (l .inv .4) (sym (c .before .keeps .ensures) ∙ c .if1 .taken)
+
+add-i : tie.Need-add-i Inv-loop μ-loop
+add-i c = search needs
+
+loop-less : tie.Need-loop-less Inv-loop μ-loop
+loop-less c = search needs
+
+loop-again : tie.Need-loop-again Inv-loop μ-loop
+loop-again c =
+    let a = c .before .before .before .before .before .before .before .args in
+    let l = c .before .before .before .loop in (
+      omega arith,
+      omega arith,
+      omega arith,
+      omega arith,
+      look-on (a .heads .now) (a .keys .now) (a .subject .now) (l .i) (a .n) (findFrom (a .heads .now) (a .keys .now) (a .subject .now) 0 (a .n)) (omega arith) (l .inv .4) (sym (c .before .keeps .ensures) ∙ c .if1 .left),
+    )
+
+returns-2 : tie.Need-returns-2 Inv-loop μ-loop
+returns-2 c =
+    let a = c .before .before .before .before .before .args in
+    find-end (a .heads .now) (c .before .loop .i) (a .n) (omega arith) (a .keys .now) (a .subject .now) (findFrom (a .heads .now) (a .keys .now) (a .subject .now) 0 (a .n)) (c .before .loop .inv .4)
+
+pub find-spec : {M : Type 1} → statement M
+find-spec =
+    tie.close
+    (tie.spec
+    Inv-loop
+    μ-loop
+    loop-holds
+    keeps-requires
+    returns
+    add-i
+    loop-less
+    loop-again
+    returns-2)

@@ -1,0 +1,78 @@
+-- Only private contracts cite this file: what a resolve comes to before anything is written, and what its steps ask for and leave.
+use Prim.Native.Nat.{ℕ, _+_, _*_, _≤_, _<_}
+use mathlib.Core.Path.{_≡_}
+use mathlib.Core.Bool.{Bool, true, false}
+use mathlib.Core.List.{List, [], _∷_}
+use mathlib.Core.Option.{Option, none, some}
+use lib.Dec.{ltb}
+use lib.ListN.{length}
+use Rattle.subject.specs.Choice.{pick}
+use Rattle.subject.specs.Answers.{Answer, answer}
+use Rattle.subject.specs.Grammar.{grammar}
+use Rattle.sublist_snapshot.specs.declared.Snapshot.{Snapshot}
+use Rattle.sublist_snapshot.specs.Snapshot.{standsIn, walkOf}
+use Rattle.resolve_cache.specs.declared.ResolveCache.{ResolveCache}
+use Rattle.resolve_cache.specs.declared.Slot.{Slot}
+use Rattle.resolve_cache.specs.declared.Slot.the-variants.{At, Nothing}
+use Rattle.resolve_cache.specs.declared.ResolveAnswer.{ResolveAnswer}
+use Rattle.resolve_cache.specs.declared.ResolveAnswer.the-variants.{Walked, OutShort}
+use Rattle.resolve_cache.specs.declared.Resolved.{Resolved as Returned}
+use Rattle.resolve_cache.specs.declared.Decision.{Decision}
+use Rattle.resolve_cache.specs.declared.Decision.the-variants.{Refuse, Hit, Walk}
+use Rattle.resolve_cache.specs.Area.{Area, keyLength, targetCount, keep, touch}
+use Rattle.resolve_cache.specs.Cache.{findFrom, place, adopt, ticked, hit, walked, grown, qualifies, inKept, Resolved, unchanged, miss, ifAccepted, resolve}
+use Rattle.resolve_cache.specs.Answers.{resolveAnswer}
+
+-- the three lists have room for n slots, 1,024 at the most
+pub record Roomy (n : ℕ) (a : Area) : Type 0 where
+  pub few : n ≤ 1024
+  pub inHeads : 3 * n ≤ length (a .heads)
+  pub inKeys : 256 * n ≤ length (a .keys)
+  pub inKept : 16 * n ≤ length (a .kept)
+
+-- 17 and 18 on the capacity do not apply
+pub record Ready (c : ResolveCache) (a : Area) : Type 0 where
+  pub any : 1 ≤ c .capacity
+  pub fits : c .used ≤ c .capacity
+  pub roomy : Roomy (c .capacity) a
+
+-- the first n slots have keys of at most 256 bytes
+abbrev pub Small : List ℕ → ℕ → Type 0
+Small heads n = (i : ℕ) → i < n → keyLength heads i ≤ 256
+
+-- a slot that was found
+abbrev pub slotOf : Slot → Option ℕ
+slotOf (At i) = some i
+slotOf Nothing = none
+
+-- what a lookup comes to: a hit is refused where the output is shorter than the kept list
+abbrev pub seen : Option ℕ → List ℕ → ℕ → Decision
+seen none heads room = Walk
+seen (some i) heads room = pick (ltb room (targetCount heads i)) (Refuse (OutShort (targetCount heads i))) (Hit i (targetCount heads i))
+
+-- a walk's list is kept, or is not
+pub record Keeps (e : ResolveCache) (a : Area) (subject list : List ℕ) (r : Returned) (after : Area) : Type 0 where
+  pub says : r .answer ≡ Walked (length list)
+  pub cache : r .cache ≡ pick (qualifies subject list) (grown e) (walked e)
+  pub area : after ≡ pick (qualifies subject list) (keep a (place e a) subject list (ticked e .0)) a
+
+module _ (c : ResolveCache) (a : Area) (s : Snapshot) (words subject out : List ℕ) where
+  -- the cache on the standing table's generation
+  abbrev pub current : ResolveCache
+  current = adopt (s .generation) c
+
+  -- what a hit at slot i leaves
+  abbrev pub showing : ℕ → ℕ → Resolved
+  showing i count = record { says = inKept (16 * i) count; cache = hit current; area = touch a i (ticked current .0); out = out }
+
+  -- what a walk leaves
+  abbrev pub walking : Resolved
+  walking =
+      ifAccepted c a subject out (grammar false subject)
+      (pick (standsIn s words) (miss c a subject out current (walkOf s words subject)) (unchanged c a subject out (answer 19 [])))
+
+  -- the resolve is what the decision leads to
+  abbrev pub Decides : Decision → Type 0
+  Decides (Refuse r) = unchanged c a subject out (resolveAnswer r) ≡ resolve c a s words subject out
+  Decides (Hit i count) = Ready c a × (i < c .capacity) × (showing i count ≡ resolve c a s words subject out)
+  Decides Walk = Ready c a × (walking ≡ resolve c a s words subject out)

@@ -1,0 +1,609 @@
+// The resolve cache: lists found before, kept by subject for one generation of the table. A port of IronBus's ResolveCache.
+// The slots lie in three lent lists: `heads` has three numbers a slot (the key's length, the number of targets, the stamp), `keys` 256 bytes, `kept` 16 targets.
+ghost use mathlib.Core.Path.{_≡_};
+ghost use mathlib.Core.List.{[], _∷_};
+ghost use Prim.Native.Nat.{suc, _+_, _*_, _-_, _≤_, _<_, max};
+ghost use lib.Dec.{eqb, ltb};
+ghost use lib.ListN.{length};
+ghost use Rattle.subject.specs.Choice.{pick};
+ghost use Rattle.subject.specs.Text.{same};
+ghost use Rattle.subject.specs.Answers.{answer, parsed, whenAccepted};
+ghost use Rattle.sublist_walk.specs.Walk.{part};
+ghost use Rattle.sublist_snapshot.specs.Snapshot.{wrap};
+ghost use Rattle.resolve_cache.specs.Area.{put, keyLength, keyAt, keep};
+ghost use Rattle.resolve_cache.specs.Cache.{short, badFrom, bad, findFrom, oldestFrom, place, withCapacity, clear, adopt, ticked, hit, walked, grown, handed, resolve};
+ghost use Rattle.resolve_cache.specs.Answers.{cacheAnswer, resolveAnswer, lent, left, listOf};
+ghost use Rattle.resolve_cache.specs.Deciding.{Roomy, Ready, Small, slotOf, seen, Keeps, walking, Decides};
+use subject::Parsed;
+use subject::SubjectError;
+use sublist_snapshot::Generation;
+use sublist_snapshot::Snapshot;
+use sublist_snapshot::SnapshotMatch;
+
+// What a slot takes: numbers of `heads`, bytes of `keys`, targets of `kept`.
+pub const SLOT_NUMBERS: usize = 3;
+
+pub const SLOT_BYTES: usize = 256;
+
+pub const SLOT_TARGETS: usize = 16;
+
+// A cache's own count of its resolves, which stamps its slots. A tick is never a generation.
+pub struct Tick(pub u64);
+
+// A cache's numbers; its slots lie in a lent area.
+pub struct ResolveCache {
+    pub capacity: usize,
+    pub used: usize,
+    pub generation: Generation,
+    pub tick: Tick,
+    pub walks: u64,
+}
+
+// A fresh cache, or an area too short for it.
+pub enum MadeCache {
+    Made(ResolveCache),
+    CacheShort,
+}
+
+// Where a resolve's list lies: a part of the cache's targets, or the first places of the output. Or why it is refused.
+pub enum ResolveAnswer {
+    Kept { from: usize, count: usize },
+    Walked { count: usize },
+    Invalid(SubjectError),
+    CacheShort,
+    BadSlot,
+    Damaged,
+    OutShort(usize),
+}
+
+// A resolve's answer, and the cache afterwards.
+pub struct Resolved {
+    pub cache: ResolveCache,
+    pub answer: ResolveAnswer,
+}
+
+// A slot that keeps a subject's list.
+enum Slot {
+    At(usize),
+    Nothing,
+}
+
+// What a resolve comes to before anything is written.
+enum Decision {
+    Refuse(ResolveAnswer),
+    Hit { slot: usize, count: usize },
+    Walk,
+}
+
+impl ResolveCache {
+    // The most slots that a cache may have, and how many `new` gives it.
+    pub const DEFAULT_CAPACITY: usize = 1024;
+
+    // A fresh cache of so many slots, one at the least, in the lent area.
+    pub fn with_capacity(capacity: usize, heads: &[u64], keys: &[u8], kept: &[u32]) -> MadeCache
+        ensures { λ r. ⌜ cacheAnswer r ≡ withCapacity capacity (lent (now (heads .entry)) (now (keys .entry)) (now (kept .entry))) ⌝ }
+    {
+        let slots = at_least_one(capacity);
+        if is_short(slots, heads, keys, kept) {
+            return MadeCache::CacheShort;
+        }
+        MadeCache::Made(ResolveCache {
+            capacity: slots,
+            used: 0,
+            generation: Generation(0),
+            tick: Tick(0),
+            walks: 0,
+        })
+    }
+
+    // A fresh cache of 1,024 slots.
+    pub fn new(heads: &[u64], keys: &[u8], kept: &[u32]) -> MadeCache
+        ensures { λ r. ⌜ cacheAnswer r ≡ withCapacity 1024 (lent (now (heads .entry)) (now (keys .entry)) (now (kept .entry))) ⌝ }
+    {
+        ResolveCache::with_capacity(ResolveCache::DEFAULT_CAPACITY, heads, keys, kept)
+    }
+
+    // The most subjects that the cache keeps lists for.
+    pub fn capacity(self) -> usize
+        ensures { λ r. ⌜ r ≡ self .capacity ⌝ }
+    {
+        self.capacity
+    }
+
+    // How many subjects it keeps lists for.
+    pub fn len(self) -> usize
+        ensures { λ r. ⌜ r ≡ self .used ⌝ }
+    {
+        self.used
+    }
+
+    // Whether it keeps no list.
+    pub fn is_empty(self) -> bool
+        ensures { λ r. ⌜ r ≡ eqb (self .used) 0 ⌝ }
+    {
+        self.used == 0
+    }
+
+    // How many resolves walked the table.
+    pub fn walk_count(self) -> u64
+        ensures { λ r. ⌜ r ≡ self .walks ⌝ }
+    {
+        self.walks
+    }
+
+    // The generation of the table that its lists are from.
+    pub fn generation(self) -> Generation
+        ensures { λ r. ⌜ r ≡ self .generation ⌝ }
+    {
+        self.generation
+    }
+
+    // Emptied; generation and walks remain.
+    pub fn clear(self) -> ResolveCache
+        ensures { λ r. ⌜ r ≡ clear self ⌝ }
+    {
+        let generation = self.generation;
+        ResolveCache {
+            capacity: self.capacity,
+            used: 0,
+            generation,
+            tick: Tick(0),
+            walks: self.walks,
+        }
+    }
+
+    // The targets of a subject, from the cache or by a walk of the standing table, whose list is then kept. 1 to 9, 17, 18, 19 on the counts; then a hit (21) or a walk (19, 21).
+    // Only the heads change on a hit; a refusal changes nothing.
+    pub fn resolve(
+        self,
+        heads: &mut [u64],
+        keys: &mut [u8],
+        kept: &mut [u32],
+        snapshot: Snapshot,
+        area: &[u32],
+        subject: &[u8],
+        out: &mut [u32],
+    ) -> Resolved
+        ensures { λ r. ⌜ left r (lent (now (heads .exit)) (now (keys .exit)) (now (kept .exit))) (now (out .exit)) ≡ resolve self (lent (now (heads .entry)) (now (keys .entry)) (now (kept .entry))) snapshot (now (area .entry)) (now (subject .entry)) (now (out .entry)) ⌝ }
+    {
+        match decide(self, heads, keys, kept, snapshot, area, subject, out) {
+            Decision::Refuse(answer) => refuse(self, answer),
+            Decision::Hit { slot, count } => show(self, heads, snapshot, slot, count),
+            Decision::Walk => walk(self, heads, keys, kept, snapshot, area, subject, out),
+        }
+    }
+}
+
+impl ResolveAnswer {
+    // The list that an answer hands back: a part of the cache's targets or of the output, as the resolve left them. A refusal hands back none.
+    pub fn list<'a>(self, kept: &'a [u32], out: &'a [u32]) -> &'a [u32]
+        ensures { λ r. ⌜ now r ≡ listOf (handed (resolveAnswer self) (now (kept .entry)) (now (out .entry))) ⌝ }
+    {
+        match self {
+            ResolveAnswer::Kept { from, count } => part(kept, from, count),
+            ResolveAnswer::Walked { count } => part(out, 0, count),
+            ResolveAnswer::Invalid(_) => &out[..0],
+            ResolveAnswer::CacheShort => &out[..0],
+            ResolveAnswer::BadSlot => &out[..0],
+            ResolveAnswer::Damaged => &out[..0],
+            ResolveAnswer::OutShort(_) => &out[..0],
+        }
+    }
+}
+
+// So many words from a place on, as far as there are any.
+fn part<'a>(words: &'a [u32], from: usize, count: usize) -> &'a [u32]
+    ensures { λ r. ⌜ now r ≡ part (now (words .entry)) from count ⌝ }
+{
+    if words.len() < from {
+        return &words[..0];
+    }
+    if words.len() - from < count {
+        return &words[from..];
+    }
+    let end = from + count;
+    &words[from..end]
+}
+
+fn at_least_one(capacity: usize) -> usize
+    ensures { λ r. ⌜ r ≡ max 1 capacity ⌝ }
+{
+    if capacity == 0 { 1 } else { capacity }
+}
+
+// 17: capacity over 1,024, or a list that is too short for so many slots.
+fn is_short(capacity: usize, heads: &[u64], keys: &[u8], kept: &[u32]) -> bool
+    ensures { λ r. ⌜ r ≡ short capacity (lent (now (heads .entry)) (now (keys .entry)) (now (kept .entry))) ⌝ }
+{
+    if ResolveCache::DEFAULT_CAPACITY < capacity {
+        return true;
+    }
+    if heads.len() < SLOT_NUMBERS * capacity {
+        return true;
+    }
+    if keys.len() < SLOT_BYTES * capacity {
+        return true;
+    }
+    kept.len() < SLOT_TARGETS * capacity
+}
+
+// 18 on the slots: one of the first n has a key over 256 bytes or over 16 targets.
+fn has_bad_slot(heads: &[u64], n: usize) -> bool
+    requires { ⌜ (n ≤ 1024) × (3 * n ≤ length (now heads)) ⌝ }
+    ensures { λ r. ⌜ r ≡ badFrom (now (heads .entry)) 0 n ⌝ }
+{
+    let mut i = 0;
+    while i < n {
+        if SLOT_BYTES < heads[SLOT_NUMBERS * i] as usize {
+            return true;
+        }
+        if SLOT_TARGETS < heads[SLOT_NUMBERS * i + 1] as usize {
+            return true;
+        }
+        i += 1;
+    }
+    false
+}
+
+// 18: capacity is 0, more slots are used than capacity, or a used slot is bad.
+fn is_bad(cache: ResolveCache, heads: &[u64], keys: &[u8], kept: &[u32]) -> bool
+    requires { ⌜ Roomy (cache .capacity) (lent (now heads) (now keys) (now kept)) ⌝ }
+    ensures { λ r. ⌜ r ≡ bad cache (lent (now (heads .entry)) (now (keys .entry)) (now (kept .entry))) ⌝ }
+{
+    if cache.capacity == 0 {
+        return true;
+    }
+    if cache.capacity < cache.used {
+        return true;
+    }
+    has_bad_slot(heads, cache.used)
+}
+
+// Whether a slot keeps the list of a subject: the same bytes.
+fn keeps(heads: &[u64], keys: &[u8], i: usize, subject: &[u8]) -> bool
+    requires { ⌜ (i < 1024) × (3 * i + 3 ≤ length (now heads)) × (256 * i + 256 ≤ length (now keys)) × (keyLength (now heads) i ≤ 256) ⌝ }
+    ensures { λ r. ⌜ r ≡ same (keyAt (now (heads .entry)) (now (keys .entry)) i) (now (subject .entry)) ⌝ }
+{
+    let length = heads[SLOT_NUMBERS * i] as usize;
+    let start = SLOT_BYTES * i;
+    let end = start + length;
+    subject::same_bytes(&keys[start..end], subject)
+}
+
+// The first of n slots that keeps the list of a subject.
+fn find(heads: &[u64], keys: &[u8], n: usize, subject: &[u8]) -> Slot
+    requires { ⌜ (n ≤ 1024) × (3 * n ≤ length (now heads)) × (256 * n ≤ length (now keys)) ⌝ }
+    requires { ⌜ Small (now heads) n ⌝ }
+    ensures { λ r. ⌜ slotOf r ≡ findFrom (now (heads .entry)) (now (keys .entry)) (now (subject .entry)) 0 n ⌝ }
+{
+    let mut i = 0;
+    while i < n {
+        if keeps(heads, keys, i, subject) {
+            return Slot::At(i);
+        }
+        i += 1;
+    }
+    Slot::Nothing
+}
+
+// The slot of smallest stamp among the first n, the lowest on a tie.
+fn oldest(heads: &[u64], n: usize) -> usize
+    requires { ⌜ (1 ≤ n) × (n ≤ 1024) × (3 * n ≤ length (now heads)) ⌝ }
+    ensures { λ r. ⌜ r ≡ oldestFrom (now (heads .entry)) 0 1 (n - 1) ⌝ }
+{
+    let mut best = 0;
+    let mut i = 1;
+    while i < n {
+        if heads[SLOT_NUMBERS * i + 2] < heads[SLOT_NUMBERS * best + 2] {
+            best = i;
+        }
+        i += 1;
+    }
+    best
+}
+
+// The slot that a new list goes to: the first unused one, or the one of smallest stamp.
+fn place(cache: ResolveCache, heads: &[u64], keys: &[u8], kept: &[u32]) -> usize
+    requires { ⌜ Ready cache (lent (now heads) (now keys) (now kept)) ⌝ }
+    ensures { λ r. ⌜ (r ≡ place cache (lent (now (heads .entry)) (now (keys .entry)) (now (kept .entry)))) × (r < cache .capacity) ⌝ }
+{
+    if cache.used < cache.capacity {
+        return cache.used;
+    }
+    oldest(heads, cache.used)
+}
+
+// The cache on a table's generation: emptied if it was on another.
+fn adopt(cache: ResolveCache, generation: Generation) -> ResolveCache
+    ensures { λ r. ⌜ r ≡ adopt generation cache ⌝ }
+{
+    let own = cache.generation;
+    if own.0 == generation.0 {
+        return cache;
+    }
+    ResolveCache {
+        capacity: cache.capacity,
+        used: 0, // its lists are another table's
+        generation,
+        tick: Tick(0),
+        walks: cache.walks,
+    }
+}
+
+fn next_tick(cache: ResolveCache) -> Tick
+    ensures { λ r. ⌜ r ≡ ticked cache ⌝ }
+{
+    let tick = cache.tick;
+    Tick(std::num::wrapping_add_u64(tick.0, 1))
+}
+
+fn next_walks(cache: ResolveCache) -> u64
+    ensures { λ r. ⌜ r ≡ wrap (cache .walks + 1) ⌝ }
+{
+    std::num::wrapping_add_u64(cache.walks, 1)
+}
+
+// The cache after a hit.
+fn hit(cache: ResolveCache) -> ResolveCache
+    ensures { λ r. ⌜ r ≡ hit cache ⌝ }
+{
+    let generation = cache.generation;
+    let tick = next_tick(cache);
+    ResolveCache {
+        capacity: cache.capacity,
+        used: cache.used,
+        generation,
+        tick,
+        walks: cache.walks,
+    }
+}
+
+// The cache after a walk that keeps nothing.
+fn walked(cache: ResolveCache) -> ResolveCache
+    ensures { λ r. ⌜ r ≡ walked cache ⌝ }
+{
+    let generation = cache.generation;
+    let tick = next_tick(cache);
+    ResolveCache {
+        capacity: cache.capacity,
+        used: cache.used,
+        generation,
+        tick,
+        walks: next_walks(cache),
+    }
+}
+
+// How many slots are used once one more list is kept.
+fn used_after(cache: ResolveCache) -> usize
+    ensures { λ r. ⌜ r ≡ pick (ltb (cache .used) (cache .capacity)) (suc (cache .used)) (cache .used) ⌝ }
+{
+    if cache.used < cache.capacity {
+        return cache.used + 1;
+    }
+    cache.used
+}
+
+// The cache after a walk whose list is kept.
+fn grown(cache: ResolveCache) -> ResolveCache
+    ensures { λ r. ⌜ r ≡ grown cache ⌝ }
+{
+    let generation = cache.generation;
+    let tick = next_tick(cache);
+    let used = used_after(cache);
+    ResolveCache {
+        capacity: cache.capacity,
+        used,
+        generation,
+        tick,
+        walks: next_walks(cache),
+    }
+}
+
+// A slot is stamped.
+fn touch(heads: &mut [u64], i: usize, stamp: u64)
+    requires { ⌜ (i < 1024) × (3 * i + 3 ≤ length (now heads)) ⌝ }
+    ensures { λ _. ⌜ now (heads .exit) ≡ put (now (heads .entry)) (3 * i + 2) (stamp ∷ []) ⌝ }
+{
+    heads[SLOT_NUMBERS * i + 2] = stamp;
+}
+
+fn put_bytes(to: &mut [u8], from: usize, new: &[u8])
+    requires { ⌜ from + length (now new) ≤ length (now to) ⌝ }
+    ensures { λ _. ⌜ now (to .exit) ≡ put (now (to .entry)) from (now (new .entry)) ⌝ }
+{
+    let mut i = 0;
+    while i < new.len() {
+        to[from + i] = new[i];
+        i += 1;
+    }
+}
+
+fn put_words(to: &mut [u32], from: usize, new: &[u32])
+    requires { ⌜ from + length (now new) ≤ length (now to) ⌝ }
+    ensures { λ _. ⌜ now (to .exit) ≡ put (now (to .entry)) from (now (new .entry)) ⌝ }
+{
+    let mut i = 0;
+    while i < new.len() {
+        to[from + i] = new[i];
+        i += 1;
+    }
+}
+
+// A slot's numbers: the key's length, the number of targets, the stamp.
+fn put_head(heads: &mut [u64], i: usize, size: usize, count: usize, stamp: u64)
+    requires { ⌜ (i < 1024) × (3 * i + 3 ≤ length (now heads)) ⌝ }
+    ensures { λ _. ⌜ now (heads .exit) ≡ put (now (heads .entry)) (3 * i) (size ∷ count ∷ stamp ∷ []) ⌝ }
+{
+    heads[SLOT_NUMBERS * i] = size as u64;
+    heads[SLOT_NUMBERS * i + 1] = count as u64;
+    heads[SLOT_NUMBERS * i + 2] = stamp;
+}
+
+// A list is kept in a slot under a key, with a stamp.
+fn keep(
+    heads: &mut [u64],
+    keys: &mut [u8],
+    kept: &mut [u32],
+    i: usize,
+    subject: &[u8],
+    list: &[u32],
+    stamp: u64,
+)
+    requires { ⌜ (i < 1024) × (3 * i + 3 ≤ length (now heads)) × (256 * i + 256 ≤ length (now keys)) × (16 * i + 16 ≤ length (now kept)) ⌝ }
+    requires { ⌜ (length (now subject) ≤ 256) × (length (now list) ≤ 16) ⌝ }
+    ensures { λ _. ⌜ lent (now (heads .exit)) (now (keys .exit)) (now (kept .exit)) ≡ keep (lent (now (heads .entry)) (now (keys .entry)) (now (kept .entry))) i (now (subject .entry)) (now (list .entry)) stamp ⌝ }
+{
+    put_head(heads, i, subject.len(), list.len(), stamp);
+    put_bytes(keys, SLOT_BYTES * i, subject);
+    put_words(kept, SLOT_TARGETS * i, list);
+}
+
+// The list of a walk is kept, unless the subject has over 256 bytes or the list over 16 targets. The cache is on the standing table's generation.
+fn keep_list(
+    cache: ResolveCache,
+    heads: &mut [u64],
+    keys: &mut [u8],
+    kept: &mut [u32],
+    subject: &[u8],
+    list: &[u32],
+) -> Resolved
+    requires { ⌜ Ready cache (lent (now heads) (now keys) (now kept)) ⌝ }
+    ensures { λ r. ⌜ Keeps cache (lent (now (heads .entry)) (now (keys .entry)) (now (kept .entry))) (now (subject .entry)) (now (list .entry)) r (lent (now (heads .exit)) (now (keys .exit)) (now (kept .exit))) ⌝ }
+{
+    let count = list.len();
+    let answer = ResolveAnswer::Walked { count };
+    if SLOT_BYTES < subject.len() {
+        return Resolved {
+            cache: walked(cache),
+            answer,
+        };
+    }
+    if SLOT_TARGETS < count {
+        return Resolved {
+            cache: walked(cache),
+            answer,
+        };
+    }
+    let i = place(cache, heads, keys, kept);
+    let stamp = next_tick(cache);
+    keep(heads, keys, kept, i, subject, list, stamp.0);
+    Resolved {
+        cache: grown(cache),
+        answer,
+    }
+}
+
+// The standing table is walked into the output.
+fn walk(
+    cache: ResolveCache,
+    heads: &mut [u64],
+    keys: &mut [u8],
+    kept: &mut [u32],
+    snapshot: Snapshot,
+    area: &[u32],
+    subject: &[u8],
+    out: &mut [u32],
+) -> Resolved
+    requires { ⌜ Ready cache (lent (now heads) (now keys) (now kept)) ⌝ }
+    ensures { λ r. ⌜ left r (lent (now (heads .exit)) (now (keys .exit)) (now (kept .exit))) (now (out .exit)) ≡ walking cache (lent (now (heads .entry)) (now (keys .entry)) (now (kept .entry))) snapshot (now (area .entry)) (now (subject .entry)) (now (out .entry)) ⌝ }
+{
+    let current = adopt(cache, snapshot.generation());
+    match snapshot.match_into(area, subject, out) {
+        SnapshotMatch::Invalid(e) => refuse(cache, ResolveAnswer::Invalid(e)),
+        SnapshotMatch::Damaged => refuse(cache, ResolveAnswer::Damaged),
+        SnapshotMatch::OutShort(needed) => refuse(cache, ResolveAnswer::OutShort(needed)),
+        SnapshotMatch::Listed {
+            count,
+            peak: _,
+            generation: _,
+        } => keep_list(current, heads, keys, kept, subject, &out[..count]),
+    }
+}
+
+// The list that a slot keeps is shown, and the slot stamped.
+fn show(
+    cache: ResolveCache,
+    heads: &mut [u64],
+    snapshot: Snapshot,
+    slot: usize,
+    count: usize,
+) -> Resolved
+    requires { ⌜ (slot < 1024) × (3 * slot + 3 ≤ length (now heads)) ⌝ }
+    ensures { λ r. ⌜ (r .answer ≡ ResolveAnswer.Kept (16 * slot) count) × (r .cache ≡ hit (adopt (snapshot .generation) cache)) × (now (heads .exit) ≡ put (now (heads .entry)) (3 * slot + 2) (ticked (adopt (snapshot .generation) cache) .0 ∷ [])) ⌝ }
+{
+    let current = adopt(cache, snapshot.generation());
+    let stamp = next_tick(current);
+    touch(heads, slot, stamp.0);
+    Resolved {
+        cache: hit(current),
+        answer: ResolveAnswer::Kept {
+            from: SLOT_TARGETS * slot,
+            count,
+        },
+    }
+}
+
+// A refused resolve leaves the cache as it was.
+fn refuse(cache: ResolveCache, answer: ResolveAnswer) -> Resolved
+    ensures { λ r. ⌜ (r .cache ≡ cache) × (r .answer ≡ answer) ⌝ }
+{
+    Resolved { cache, answer }
+}
+
+// The refusal of a subject, as that of a resolve.
+fn refused(text: Parsed) -> ResolveAnswer
+    ensures { λ r. ⌜ resolveAnswer r ≡ whenAccepted (parsed text) (answer 19 []) ⌝ }
+{
+    match text {
+        Parsed::Accepted(_) => ResolveAnswer::Damaged,
+        Parsed::Refused(e) => ResolveAnswer::Invalid(e),
+    }
+}
+
+// A subject is looked for in the first n slots.
+fn look_up(heads: &[u64], keys: &[u8], n: usize, subject: &[u8], room: usize) -> Decision
+    requires { ⌜ (n ≤ 1024) × (3 * n ≤ length (now heads)) × (256 * n ≤ length (now keys)) ⌝ }
+    requires { ⌜ Small (now heads) n ⌝ }
+    ensures { λ r. ⌜ r ≡ seen (findFrom (now (heads .entry)) (now (keys .entry)) (now (subject .entry)) 0 n) (now (heads .entry)) room ⌝ }
+{
+    match find(heads, keys, n, subject) {
+        Slot::Nothing => Decision::Walk,
+        Slot::At(slot) => {
+            let count = heads[SLOT_NUMBERS * slot + 1] as usize;
+            if room < count {
+                return Decision::Refuse(ResolveAnswer::OutShort(count));
+            }
+            Decision::Hit { slot, count }
+        }
+    }
+}
+
+// What a resolve comes to: 1 to 9, 17, 18, 19 on the counts, then a hit (21) or a walk.
+fn decide(
+    cache: ResolveCache,
+    heads: &[u64],
+    keys: &[u8],
+    kept: &[u32],
+    snapshot: Snapshot,
+    area: &[u32],
+    subject: &[u8],
+    out: &[u32],
+) -> Decision
+    ensures { λ r. ⌜ Decides cache (lent (now (heads .entry)) (now (keys .entry)) (now (kept .entry))) snapshot (now (area .entry)) (now (subject .entry)) (now (out .entry)) r ⌝ }
+{
+    let text = subject::parse_literal(subject);
+    let Parsed::Accepted(_) = text else {
+        return Decision::Refuse(refused(text));
+    };
+    if is_short(cache.capacity, heads, keys, kept) {
+        return Decision::Refuse(ResolveAnswer::CacheShort);
+    }
+    if is_bad(cache, heads, keys, kept) {
+        return Decision::Refuse(ResolveAnswer::BadSlot);
+    }
+    if !snapshot.stands_in(area) {
+        return Decision::Refuse(ResolveAnswer::Damaged);
+    }
+    let current = adopt(cache, snapshot.generation());
+    look_up(heads, keys, current.used, subject, out.len())
+}

@@ -1,0 +1,77 @@
+-- `sublist_snapshot::copy_words` meets its contract. The loop's invariant: the first `i` words are copied. Assumes nothing.
+use Prim.Native.Nat.{_+_, _-_, _≤_}
+use native.Mathlib.Omega.{arith}
+use native.Mathlib.Numerals.{add-one}
+use mathlib.Core.Path.{_≡_, refl, _∙_, ap}
+use lib.ListN.{length, getD, length-set}
+use lib.Seq.{paste, paste-zero, paste-suc}
+use borrow.Author.Needs.{needs}
+use Rattle.sublist_snapshot.proofs.copy_words.Statement.{statement}
+use Rattle.sublist_snapshot.proofs.copy_words.Tie as tie
+
+abbrev Inv-loop : tie.InvT-loop
+Inv-loop to₀ at from n i₀ to i = (i ≤ n) × (at + n ≤ length to₀) × (n ≤ length from) × (length to ≡ length to₀) × (to ≡ paste to₀ at from i)
+
+abbrev μ-loop : tie.MeasureT-loop
+μ-loop to₀ at from n i₀ to i = n - i
+
+loop-holds : tie.Need-loop-holds Inv-loop μ-loop
+loop-holds c = (omega arith, omega arith, omega arith, refl, paste-zero (c .args .to .now) (c .args .at) (c .args .from .now))
+
+mul-to : tie.Need-mul-to Inv-loop μ-loop
+mul-to c = search needs
+
+shared-slice-read-to : tie.Need-shared-slice-read-to Inv-loop μ-loop
+shared-slice-read-to c = search needs
+
+add-to : tie.Need-add-to Inv-loop μ-loop
+add-to c = search needs
+
+mul-to-2 : tie.Need-mul-to-2 Inv-loop μ-loop
+mul-to-2 c = search needs
+
+slice-write-to : tie.Need-slice-write-to Inv-loop μ-loop
+slice-write-to c = search needs
+
+add-i : tie.Need-add-i Inv-loop μ-loop
+add-i c = search needs
+
+loop-less : tie.Need-loop-less Inv-loop μ-loop
+loop-less c = search needs
+
+loop-again : tie.Need-loop-again Inv-loop μ-loop
+loop-again c =
+    let a = c .before .before .before .args in
+    let l = c .before .before .loop in (
+      omega arith,
+      omega arith,
+      omega arith,
+      length-set (l .to) (a .at + l .i) (getD (a .from .now) (l .i) 0) ∙ l .inv .3,
+      rw (l .inv .4, add-one (l .i)) (paste-suc (a .to .now) (a .at) (a .from .now) (l .i) 0 (omega arith) (omega arith)),
+    )
+
+same-length : tie.Need-same-length Inv-loop μ-loop
+same-length c = search needs
+
+returns : tie.Need-returns Inv-loop μ-loop
+returns c =
+    let a = c .before .before .args in
+    c .before .loop .inv .4 ∙ ap (paste (a .to .now) (a .at) (a .from .now)) (let e : c .before .loop .i ≡ a .n = omega arith in e)
+
+pub copy-words-spec : {M : Type 1} → statement M
+copy-words-spec =
+    tie.close
+    (tie.spec
+    Inv-loop
+    μ-loop
+    loop-holds
+    mul-to
+    shared-slice-read-to
+    add-to
+    mul-to-2
+    slice-write-to
+    add-i
+    loop-less
+    loop-again
+    same-length
+    returns)
