@@ -1,4 +1,4 @@
--- What an accepted build owes demand 3: two of the laws follow from its answer. The third, that its areas hold the tree, is the build's own theorem.
+-- What an accepted build's answer says of its entries: their texts are accepted, and their worst case is at most 1,024.
 use Prim.Native.Nat.{ℕ, zero, suc, _+_, _/_, _≤_}
 use native.Mathlib.Omega.{arith}
 use mathlib.Core.Path.{_≡_, refl, _∙_, ap, subst}
@@ -18,14 +18,13 @@ use Rattle.sublist_tree.specs.Lists.{All}
 use Rattle.sublist_tree.specs.Tree.{worst}
 use Rattle.sublist_tree.specs.Table.{TableEntry, rootOf, Accepted}
 use Rattle.sublist_area.specs.Growing.{planted}
-use Rattle.sublist_walk.specs.Holds.{Holds}
 use Rattle.sublist.specs.declared.Entry.{Entry}
 use Rattle.sublist.specs.Entries.{textOf, readFrom}
 use Rattle.sublist.specs.Building.{invalid, badEntry, badEntries, needed, worstOf as worstIn, buildSays}
 use Rattle.sublist.specs.Passes.{linesIn, settled, laidAt, laid, filled}
 use Rattle.sublist.specs.Leaving.{buildLeaves}
 use Rattle.sublist_snapshot.specs.Snapshot.{Table, emptyTable}
-use Rattle.binding.specs.Demand.{worstOf, Laws}
+use Rattle.binding.specs.Demand.{worstOf}
 use Rattle.binding.specs.Built.{BuiltFrom}
 use Rattle.binding.proofs.Tokens.{token-refuses}
 
@@ -122,10 +121,6 @@ module _ (t : Table) (es : List TableEntry) (f : BuiltFrom t es) where
   pub built-bound : worstOf es ≤ 1024
   unfolding worstIn
   built-bound = subst (λ x. worstOf x ≤ 1024) (f .textsRead) (facts .1)
-
--- the laws of demand 3, once the build's theorem says that the areas it leaves hold the tree
-pub build-laws : ((t : Table) (es : List TableEntry) → BuiltFrom t es → Holds (t .nodeWords) (t .nodes) (t .targets) (t .targetWords) (rootOf fnv es)) → Laws
-build-laws holds = record { Built = BuiltFrom; built-accepted = built-accepts; built-worst = built-bound; built-holds = holds }
 
 -- the table of an empty snapshot is the one that a build leaves for no entries
 pub empty-built : BuiltFrom emptyTable []

@@ -20,16 +20,20 @@ use Rattle.sublist_tree.specs.Tree.{walk, peak}
 use Rattle.sublist_tree.specs.Table.{TableEntry, rootOf, Accepted, literals}
 use Rattle.sublist_tree.proofs.Hash.{hash-entries, hash-peak, hash-fork}
 use Rattle.sublist_walk.specs.Walk.{found}
-use Rattle.sublist_walk.specs.Matching.{over, outcome, ifSubject}
+use Rattle.sublist_walk.specs.Matching.{over, Outcome, outcome, ifSubject}
+use Rattle.sublist.specs.Building.{needed, worstOf as worstIn, buildSays}
 use Rattle.sublist_snapshot.specs.declared.Snapshot.{Snapshot}
-use Rattle.sublist_snapshot.specs.Snapshot.{wrap, Table, lengthOf, copied, first, snapshotNumbers, Made, make, Stored, walkOf}
+use Rattle.sublist_snapshot.specs.Snapshot.{wrap, Table, lengthOf, copied, first, snapshotNumbers, Made, make, Stored, matchIn, walkOf}
 use Rattle.sublist_snapshot.proofs.Copies.{HoldsIn, copied-length, copied-holds, make-full, make-fits, store-full, store-fits}
 use Rattle.sublist_snapshot.proofs.Standing.{holds-stands, holds-walk, holds-match}
-use Rattle.resolve_cache.specs.Cache.{clear, turnedBack, gives, withCapacity}
+use Rattle.resolve_cache.specs.Cache.{clear, Handed, turnedBack, gives, handed, withCapacity}
 use Rattle.resolve_cache.proofs.Faithful.{Faithful, unlessText, fresh-faithful, stored-faithful, clear-faithful, resolve-right}
-use Rattle.binding.specs.Verdict.{singleHome}
-use Rattle.binding.specs.Calls.{Call, store, clearing, asking, resolving, Reply, refused, storing, matched, resolved, Kept, Cabinet, replaced, stamped, shown, resolvedAs, storeTo, resolveIn, reply, after}
-use Rattle.binding.specs.Demand.{due, peakDue, worstOf, Standing, start, standingAfter, textFirst, Right, EachRight, Happened, AllRight, SnapshotRight, Opened, Laws, Lent, isStore, storesIn, tokensOf, tokensIn, inPlay, HashedApart, Premises, Met}
+use Rattle.binding.specs.Verdict.{singleHome, judgeMatch, judgeHanded, judgeResolved, resolveSingleHome, resolveSingleHomeCached}
+use Rattle.binding.specs.Calls.{Call, store, clearing, asking, resolving, askingHome, resolvingHome, Reply, refused, storing, cleared, matched, resolved, home, Kept, Cabinet, replaced, stamped, shown, resolvedAs, homeAs, storeTo, resolveIn, homeIn, reply, after}
+use Rattle.binding.specs.Built.{BuiltFrom}
+use Rattle.binding.specs.Demand.{due, peakDue, worstOf, Standing, start, standingAfter, textFirst, Right, EachRight, Happened, AllRight, SnapshotRight, Opened, Lent, isStore, storesIn, tokensOf, tokensIn, inPlay, HashedApart, Premises, Met}
+use Rattle.binding.proofs.Builds.{built-accepts, built-bound}
+use Rattle.binding.proofs.Tables.{table-holds}
 use Rattle.binding.proofs.Tokens.{Within, within-all, all-left, all-right, no-clash, subject-literals}
 
 -- what holds between calls
@@ -53,7 +57,30 @@ Taken pool s b es full x =
 abbrev walked : Standing → List ℕ → List ℕ
 walked s subject = walk eqb (map fnv (tokens subject)) (rootOf fnv (s .entries) ∷ [])
 
-module _ (laws : Laws) (pool : List (List ℕ)) (apart : HashedApart pool) where
+-- the verdict in a reply, without its list
+abbrev homeOf : Reply → Reply
+homeOf (refused a) = refused a
+homeOf (storing g) = storing g
+homeOf cleared = cleared
+homeOf (matched list verdict peak g) = home verdict (peak ∷ g ∷ [])
+homeOf (resolved list verdict) = home verdict []
+homeOf (home verdict values) = home verdict values
+
+home-of-match : (o : Outcome) → homeAs (judgeMatch o) ≡ homeOf (shown o)
+home-of-match (outcome (answer zero values) out) = refl
+home-of-match (outcome (answer (suc k) values) out) = refl
+
+home-of-handed : (h : Handed) → homeAs (judgeHanded h) ≡ homeOf (resolvedAs h)
+home-of-handed (turnedBack r) = refl
+home-of-handed (gives list) = refl
+
+home-demanded : (dues : List ℕ) (o : Answer) (c : Bool) (values : List ℕ) (given : List ℕ → Reply) → ((list : List ℕ) → homeOf (given list) ≡ home (singleHome list) values)
+    → homeOf (textFirst o (pick c (refused (answer 21 (length dues ∷ []))) (given dues))) ≡ textFirst o (pick c (refused (answer 21 (length dues ∷ []))) (home (singleHome dues) values))
+home-demanded dues (answer (suc k) vs) c values given e = refl
+home-demanded dues (answer zero vs) true values given e = refl
+home-demanded dues (answer zero vs) false values given e = e dues
+
+module _ (pool : List (List ℕ)) (apart : HashedApart pool) where
   -- no frontier outgrows 1,024
   low : (s : Standing) (b : Cabinet) → Stands pool s b → (subject : List ℕ) → peak eqb (map fnv (tokens subject)) (rootOf fnv (s .entries) ∷ []) ≤ 1024
   low s b i subject = omega (arith, hash-fork (map fnv (tokens subject)) (s .entries) (i .accepted), i .worst-case)
@@ -73,7 +100,7 @@ module _ (laws : Laws) (pool : List (List ℕ)) (apart : HashedApart pool) where
 
   -- one call
   module _ (s : Standing) (b : Cabinet) (i : Stands pool s b) where
-    store-step : (t : Table) (es : List TableEntry) → laws .Built t es → Within pool (tokensOf es) → suc (s .stores) < 2 ^ 64
+    store-step : (t : Table) (es : List TableEntry) → BuiltFrom t es → Within pool (tokensOf es) → suc (s .stores) < 2 ^ 64
         → Right s (store t es) (reply b (store t es)) × Stands pool (standingAfter s (store t es)) (after b (store t es))
     store-step t es built w few = go (ltb (s .room) (lengthOf t)) refl
       where
@@ -83,18 +110,18 @@ module _ (laws : Laws) (pool : List (List ℕ)) (apart : HashedApart pool) where
         go : (c : Bool) → ltb (s .room) (lengthOf t) ≡ c → Taken pool s b es c (storeTo b t)
         go true e =
             let full : length (b .words) < lengthOf t = omega (arith, ltb-true (s .room) (lengthOf t) e, i .room) in
-            subst (Taken pool s b es true) (sym (store-full t (rootOf fnv es) (laws .built-holds t es built) (b .words) (b .snapshot) full)) (refl, i)
+            subst (Taken pool s b es true) (sym (store-full t (rootOf fnv es) (table-holds t es built) (b .words) (b .snapshot) full)) (refl, i)
         go false e =
             let fits : lengthOf t ≤ length (b .words) = omega (arith, ltb-false (s .room) (lengthOf t) e, i .room) in
-            subst (Taken pool s b es false) (sym (store-fits t (rootOf fnv es) (laws .built-holds t es built) (b .words) (b .snapshot) fits)) (
+            subst (Taken pool s b es false) (sym (store-fits t (rootOf fnv es) (table-holds t es built) (b .words) (b .snapshot) fits)) (
               ap storing counter,
               record {
-                holds = copied-holds t (rootOf fnv es) (laws .built-holds t es built) (b .words);
+                holds = copied-holds t (rootOf fnv es) (table-holds t es built) (b .words);
                 generation = counter;
                 next = ap (λ n. wrap (n + 1)) counter ∙ ap wrap (add-one (suc (s .stores)));
-                room = copied-length t (rootOf fnv es) (laws .built-holds t es built) (b .words) fits ∙ i .room;
-                accepted = laws .built-accepted t es built;
-                worst-case = laws .built-worst t es built;
+                room = copied-length t (rootOf fnv es) (table-holds t es built) (b .words) fits ∙ i .room;
+                accepted = built-accepts t es built;
+                worst-case = built-bound t es built;
                 within = w;
                 caches = λ j. stored-faithful (due (s .entries)) (due es) (s .stores) (b .caches j .cache) (b .caches j .area) (i .caches j);
               },
@@ -156,8 +183,32 @@ module _ (laws : Laws) (pool : List (List ℕ)) (apart : HashedApart pool) where
         push (answer zero values) true = refl
         push (answer zero values) false = refl
 
+    -- the two that feed `single_home` answer by the match and the resolve that they make
+    asking-home-step : (subject out : List ℕ) → Within pool (literals (tokens subject)) → Right s (askingHome subject out) (reply b (askingHome subject out))
+    unfolding resolveSingleHome
+    asking-home-step subject out w = (
+      home-of-match (matchIn (b .snapshot) (b .words) subject out) ∙ ap homeOf (asked .0) ∙ home-demanded (due (s .entries) subject) (grammar false subject) (ltb (length out) (length (due (s .entries) subject))) (peakDue (s .entries) subject ∷ s .stores ∷ [])
+          (λ list. matched list (singleHome list) (peakDue (s .entries) subject) (s .stores)) (λ list. refl),
+      asked .1,
+      asked .2,
+    )
+      where
+        asked : Right s (asking subject out) (reply b (asking subject out))
+        asked = asking-step subject out w
+
+    resolving-home-step : (j : ℕ) (subject out : List ℕ) → Within pool (literals (tokens subject))
+        → Right s (resolvingHome j subject out) (reply b (resolvingHome j subject out)) × Stands pool s (after b (resolvingHome j subject out))
+    unfolding resolveSingleHomeCached
+    resolving-home-step j subject out w =
+        let r = resolving-step j subject out w in (
+          home-of-handed (handed ((resolveIn b j subject out) .says) ((resolveIn b j subject out) .area .kept) ((resolveIn b j subject out) .out))
+              ∙ ap homeOf (r .0) ∙ home-demanded (due (s .entries) subject) (grammar false subject) (ltb (length out) (length (due (s .entries) subject))) []
+              (λ list. resolved list (singleHome list)) (λ list. refl),
+          r .1,
+        )
+
   -- any call answers as demanded, and leaves what holds between calls
-  pub step : (s : Standing) (b : Cabinet) (c : Call) → Stands pool s b → Lent laws c → Within pool (tokensIn c) → s .stores + isStore c < 2 ^ 64
+  pub step : (s : Standing) (b : Cabinet) (c : Call) → Stands pool s b → Lent c → Within pool (tokensIn c) → s .stores + isStore c < 2 ^ 64
       → Right s c (reply b c) × Stands pool (standingAfter s c) (after b c)
   step s b (store t es) i lent w few = store-step s b i t es lent w (omega arith)
   step s b (clearing j) i lent w few = (
@@ -167,6 +218,8 @@ module _ (laws : Laws) (pool : List (List ℕ)) (apart : HashedApart pool) where
   )
   step s b (asking subject out) i lent w few = (asking-step s b i subject out w, i)
   step s b (resolving j subject out) i lent w few = resolving-step s b i j subject out w
+  step s b (askingHome subject out) i lent w few = (asking-home-step s b i subject out w, i)
+  step s b (resolvingHome j subject out) i lent w few = resolving-home-step s b i j subject out w
 
   one-more : (s : Standing) (t : Table) (es : List TableEntry) → (standingAfter s (store t es)) .stores ≤ suc (s .stores)
   one-more s t es = go (ltb (s .room) (lengthOf t))
@@ -180,9 +233,11 @@ module _ (laws : Laws) (pool : List (List ℕ)) (apart : HashedApart pool) where
   more s (clearing j) = omega arith
   more s (asking subject out) = omega arith
   more s (resolving j subject out) = omega arith
+  more s (askingHome subject out) = omega arith
+  more s (resolvingHome j subject out) = omega arith
 
   -- every list of calls
-  each-right : (s : Standing) (b : Cabinet) (calls : List Call) → Stands pool s b → All (Lent laws) calls → Within pool (concat (map tokensIn calls))
+  each-right : (s : Standing) (b : Cabinet) (calls : List Call) → Stands pool s b → All Lent calls → Within pool (concat (map tokensIn calls))
       → s .stores + storesIn calls < 2 ^ 64 → EachRight s b calls
   each-right s b [] i lent w few = tt
   each-right s b (c ∷ calls) i lent w few =
@@ -205,7 +260,7 @@ same-numbers : (s u : Snapshot) → snapshotNumbers s ≡ snapshotNumbers u → 
 same-numbers s u e =
     ap (λ (l : List ℕ). record { nodes = getD l 0 0; targets = getD l 1 0; generation = record { 0 = getD l 2 0 }; next = record { 0 = getD l 3 0 } }) e
 
-module _ (laws : Laws) (t : Table) (es : List TableEntry) (calls : List Call) (p : Premises laws t es calls) where
+module _ (t : Table) (es : List TableEntry) (calls : List Call) (p : Premises t es calls) where
   own : Within (inPlay es calls) (inPlay es calls)
   own = within-all (inPlay es calls) (inPlay es calls) (λ u m. m)
 
@@ -217,8 +272,8 @@ module _ (laws : Laws) (t : Table) (es : List TableEntry) (calls : List Call) (p
   making area = go (ltb (length area) (lengthOf t)) refl
     where
       go : (c : Bool) → ltb (length area) (lengthOf t) ≡ c → (make t area) .says ≡ pick c (answer 20 []) (answer 0 (snapshotNumbers (first t)))
-      go true e = ap (λ (m : Made). m .says) (make-full t (rootOf fnv es) (laws .built-holds t es (p .built)) area (ltb-true (length area) (lengthOf t) e))
-      go false e = ap (λ (m : Made). m .says) (make-fits t (rootOf fnv es) (laws .built-holds t es (p .built)) area (ltb-false (length area) (lengthOf t) e))
+      go true e = ap (λ (m : Made). m .says) (make-full t (rootOf fnv es) (table-holds t es (p .built)) area (ltb-true (length area) (lengthOf t) e))
+      go false e = ap (λ (m : Made). m .says) (make-fits t (rootOf fnv es) (table-holds t es (p .built)) area (ltb-false (length area) (lengthOf t) e))
 
   -- a fresh snapshot and fresh caches
   pub start-stands : (area : List ℕ) (b : Cabinet) → Opened t area b → Stands (inPlay es calls) (start es area) b
@@ -226,36 +281,37 @@ module _ (laws : Laws) (t : Table) (es : List TableEntry) (calls : List Call) (p
     where
       go : (c : Bool) → ltb (length area) (lengthOf t) ≡ c → Stands (inPlay es calls) (start es area) b
       go true e =
-          let m = make-full t (rootOf fnv es) (laws .built-holds t es (p .built)) area (ltb-true (length area) (lengthOf t) e) in
+          let m = make-full t (rootOf fnv es) (table-holds t es (p .built)) area (ltb-true (length area) (lengthOf t) e) in
           let q : answer 20 [] ≡ answer 0 (snapshotNumbers (b .snapshot)) = ap (λ (x : Made). x .says) (sym m ∙ o .snapshotMade) in
           let z : _≡_ {A = ℕ} 0 1 = cc in absurd (omega arith)
       go false e =
           let fits = ltb-false (length area) (lengthOf t) e in
-          let m = sym (make-fits t (rootOf fnv es) (laws .built-holds t es (p .built)) area fits) ∙ o .snapshotMade in
+          let m = sym (make-fits t (rootOf fnv es) (table-holds t es (p .built)) area fits) ∙ o .snapshotMade in
           let q : answer 0 (snapshotNumbers (first t)) ≡ answer 0 (snapshotNumbers (b .snapshot)) = ap (λ (x : Made). x .says) m in
           let n : snapshotNumbers (first t) ≡ snapshotNumbers (b .snapshot) = cc in
           subst (λ w. Stands (inPlay es calls) (start es area) (record { snapshot = b .snapshot; words = w; caches = b .caches })) (ap (λ (x : Made). x .area) m)
           (subst (λ x. Stands (inPlay es calls) (start es area) (record { snapshot = x; words = copied t area; caches = b .caches })) (same-numbers (first t) (b .snapshot) n) (record {
-            holds = copied-holds t (rootOf fnv es) (laws .built-holds t es (p .built)) area;
+            holds = copied-holds t (rootOf fnv es) (table-holds t es (p .built)) area;
             generation = p .zeroth;
             next = refl;
-            room = copied-length t (rootOf fnv es) (laws .built-holds t es (p .built)) area fits;
-            accepted = laws .built-accepted t es (p .built);
-            worst-case = laws .built-worst t es (p .built);
+            room = copied-length t (rootOf fnv es) (table-holds t es (p .built)) area fits;
+            accepted = built-accepts t es (p .built);
+            worst-case = built-bound t es (p .built);
             within = all-left (λ u. List·Memᴰ u (inPlay es calls)) (tokensOf es) (concat (map tokensIn calls)) own;
             caches = λ i. fresh-faithful (due es) (o .cachesMade i .0) (b .caches i .cache) (b .caches i .area) (o .cachesMade i .1);
           }))
 
   -- Demand 3: whatever the list of calls, each is answered right
   pub interleaving : (area : List ℕ) (b : Cabinet) → Met t es area b calls
-  unfolding withCapacity
+  unfolding withCapacity buildSays needed worstIn
   interleaving area b = record {
+    buildsRight = λ list texts nodesLent targetsLent generation. refl;
     snapshotRight = making area;
     cachesRight = λ n a. refl;
-    callsRight = λ o. each-right laws (inPlay es calls) (p .apart) (start es area) b calls (start-stands area b o) (p .lent) own-calls (omega (arith, p .few));
+    callsRight = λ o. each-right (inPlay es calls) (p .apart) (start es area) b calls (start-stands area b o) (p .lent) own-calls (omega (arith, p .few));
   }
 
 -- Demand 3 of calls as they happened
-pub happened-right : (laws : Laws) (t : Table) (es : List TableEntry) (area : List ℕ) (b : Cabinet) (xs : List (Call × Reply × Cabinet))
-    → Premises laws t es (map (λ x. x .0) xs) → Opened t area b → Happened b xs → AllRight (start es area) xs
-happened-right laws t es area b xs p o h = all-right-of (start es area) b xs h ((interleaving laws t es (map (λ x. x .0) xs) p area b) .callsRight o)
+pub happened-right : (t : Table) (es : List TableEntry) (area : List ℕ) (b : Cabinet) (xs : List (Call × Reply × Cabinet))
+    → Premises t es (map (λ x. x .0) xs) → Opened t area b → Happened b xs → AllRight (start es area) xs
+happened-right t es area b xs p o h = all-right-of (start es area) b xs h ((interleaving t es (map (λ x. x .0) xs) p area b) .callsRight o)

@@ -1,5 +1,7 @@
+-- Demand 3 is `Interleaving.interleaving`; `Rows` has the timetable, `Judging` the verdicts.
 pub mod Tokens
-pub mod Interleaving
-pub mod Rows
 pub mod Builds
 pub mod Tables
+pub mod Judging
+pub mod Interleaving
+pub mod Rows

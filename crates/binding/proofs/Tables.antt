@@ -1,4 +1,4 @@
--- An accepted build's areas hold the tree of its entries: the last of the laws that demand 3 asks of tables.
+-- An accepted build's areas hold the tree of its entries.
 use Prim.Native.Nat.{ℕ, _/_}
 use mathlib.Core.Path.{_≡_, refl, sym, ap, _∙_, subst}
 use mathlib.Core.List.{List, [], _∷_}
@@ -12,9 +12,7 @@ use Rattle.sublist.specs.Passes.{Filling, filling}
 use Rattle.sublist.proofs.Filling.{nodesIn, targetsIn}
 use Rattle.sublist.proofs.Builds.{taken, build-stands}
 use Rattle.sublist_snapshot.specs.Snapshot.{Table}
-use Rattle.binding.specs.Demand.{Laws}
 use Rattle.binding.specs.Built.{BuiltFrom}
-use Rattle.binding.proofs.Builds.{build-laws}
 
 pub table-holds : (t : Table) (es : List TableEntry) → BuiltFrom t es → Holds (t .nodeWords) (t .nodes) (t .targets) (t .targetWords) (rootOf fnv es)
 table-holds t es f =
@@ -25,7 +23,3 @@ table-holds t es f =
     (subst (λ x. Holds (t .nodeWords) x (length (f .list)) (t .targetWords) (rootOf fnv (readFrom (f .store) (f .list)))) n
     (subst (λ g. Holds (nodesIn g) (needed (f .store) (f .list)) (length (f .list)) (targetsIn g) (rootOf fnv (readFrom (f .store) (f .list)))) (f .areasLeft)
     (build-stands (f .list) (f .store) (f .nodesLent) (f .targetsLent) (k .0)))))
-
--- the laws, with nothing left open
-pub laws : Laws
-laws = build-laws table-holds

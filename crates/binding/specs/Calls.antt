@@ -13,9 +13,8 @@ use Rattle.resolve_cache.specs.declared.ResolveCache.{ResolveCache}
 use Rattle.resolve_cache.specs.Area.{Area}
 use Rattle.resolve_cache.specs.Cache.{clear, Handed, turnedBack, gives, handed, Resolved, resolve}
 use Rattle.binding.specs.declared.Resolution.{Resolution}
-use Rattle.binding.specs.Verdict.{singleHome}
+use Rattle.binding.specs.Verdict.{singleHome, Judged, turnedDown, judged, resolveSingleHome, CachedHomed, resolveSingleHomeCached}
 
--- the two calls that feed `single_home` count as a match and a resolve
 pub data Call : Type 0 where
   -- a table, with the entries that its build read
   store : Table → List TableEntry → Call
@@ -25,6 +24,9 @@ pub data Call : Type 0 where
   asking : List ℕ → List ℕ → Call
   -- a cache, a subject and the lent output
   resolving : ℕ → List ℕ → List ℕ → Call
+  -- the two that feed `single_home`, a match and a resolve
+  askingHome : List ℕ → List ℕ → Call
+  resolvingHome : ℕ → List ℕ → List ℕ → Call
 
 -- what a call answers, its list read where the call left it
 pub data Reply : Type 0 where
@@ -36,6 +38,8 @@ pub data Reply : Type 0 where
   matched : List ℕ → Resolution → ℕ → ℕ → Reply
   -- list and verdict
   resolved : List ℕ → Resolution → Reply
+  -- the verdict alone; of a match, peak and generation with it
+  home : Resolution → List ℕ → Reply
 
 -- a cache with its area
 pub record Kept : Type 0 where
@@ -66,17 +70,27 @@ abbrev pub resolvedAs : Handed → Reply
 resolvedAs (turnedBack r) = refused r
 resolvedAs (gives list) = resolved list (singleHome list)
 
+-- of the two that feed `single_home`, what they say
+abbrev pub homeAs : Judged → Reply
+homeAs (turnedDown r) = refused r
+homeAs (judged verdict values) = home verdict values
+
 abbrev pub storeTo : Cabinet → Table → Stored
 storeTo b t = storeIn (b .snapshot) (b .words) t
 
 abbrev pub resolveIn : Cabinet → ℕ → List ℕ → List ℕ → Resolved
 resolveIn b i subject out = resolve (b .caches i .cache) (b .caches i .area) (b .snapshot) (b .words) subject out
 
+abbrev pub homeIn : Cabinet → ℕ → List ℕ → List ℕ → CachedHomed
+homeIn b i subject out = resolveSingleHomeCached (b .caches i .cache) (b .caches i .area) (b .snapshot) (b .words) subject out
+
 abbrev pub reply : Cabinet → Call → Reply
 reply b (store t es) = stamped ((storeTo b t) .says)
 reply b (clearing i) = cleared
 reply b (asking subject out) = shown (matchIn (b .snapshot) (b .words) subject out)
 reply b (resolving i subject out) = resolvedAs (handed ((resolveIn b i subject out) .says) ((resolveIn b i subject out) .area .kept) ((resolveIn b i subject out) .out))
+reply b (askingHome subject out) = homeAs ((resolveSingleHome (b .snapshot) (b .words) subject out) .says)
+reply b (resolvingHome i subject out) = homeAs ((homeIn b i subject out) .says)
 
 -- the cabinet as the call leaves it, refused or not
 abbrev pub after : Cabinet → Call → Cabinet
@@ -91,4 +105,10 @@ after b (resolving i subject out) = record {
   snapshot = b .snapshot;
   words = b .words;
   caches = replaced (b .caches) i (record { cache = (resolveIn b i subject out) .cache; area = (resolveIn b i subject out) .area });
+}
+after b (askingHome subject out) = b
+after b (resolvingHome i subject out) = record {
+  snapshot = b .snapshot;
+  words = b .words;
+  caches = replaced (b .caches) i (record { cache = (homeIn b i subject out) .cache; area = (homeIn b i subject out) .area });
 }

@@ -8,19 +8,22 @@ use lib.ListN.{length}
 use Rattle.subject.specs.Choice.{pick}
 use Rattle.subject.specs.Text.{same, tokens}
 use Rattle.subject.specs.Fnv.{fnv}
-use Rattle.subject.specs.Answers.{Answer, answer}
+use Rattle.subject.specs.Answers.{Answer, answer, unless}
 use Rattle.subject.specs.Grammar.{grammar}
 use Rattle.sublist_tree.specs.Lists.{concat, sum, sort, All}
 use Rattle.sublist_tree.specs.Tree.{targetOf, worst}
 use Rattle.sublist_tree.specs.Due.{precedes}
-use Rattle.sublist_tree.specs.Nodes.{peakOf}
-use Rattle.sublist_tree.specs.Table.{TableEntry, rootOf, Accepted, matchingEntries, literals}
-use Rattle.sublist_walk.specs.Holds.{Holds}
+use Rattle.sublist_tree.specs.Nodes.{nodes, peakOf}
+use Rattle.sublist_tree.specs.Table.{TableEntry, rootOf, matchingEntries, literals}
+use Rattle.sublist.specs.declared.Entry.{Entry}
+use Rattle.sublist.specs.Entries.{readFrom}
+use Rattle.sublist.specs.Building.{badEntries, buildSays}
 use Rattle.sublist_snapshot.specs.Snapshot.{Table, lengthOf, first, snapshotNumbers, make}
 use Rattle.resolve_cache.specs.Area.{Area}
 use Rattle.resolve_cache.specs.Cache.{short, fresh, cacheNumbers, withCapacity}
 use Rattle.binding.specs.Verdict.{singleHome}
-use Rattle.binding.specs.Calls.{Call, store, clearing, asking, resolving, Reply, refused, storing, cleared, matched, resolved, Cabinet, reply, after}
+use Rattle.binding.specs.Built.{BuiltFrom}
+use Rattle.binding.specs.Calls.{Call, store, clearing, asking, resolving, askingHome, resolvingHome, Reply, refused, storing, cleared, matched, resolved, home, Cabinet, reply, after}
 
 -- "the targets due are those of the standing table's entries that match, once per entry, in 01's order"
 abbrev pub due : List TableEntry → List ℕ → List ℕ
@@ -32,6 +35,10 @@ peakDue es subject = peakOf eqb (map fnv (tokens subject)) (rootOf fnv es)
 
 abbrev pub worstOf : List TableEntry → ℕ
 worstOf es = worst eqb 32 (rootOf fnv es)
+
+-- the distinct runs that begin a pattern
+abbrev pub nodesOf : List TableEntry → ℕ
+nodesOf es = length (nodes eqb (rootOf fnv es))
 
 -- the standing table's entries, the number of accepted stores, and the words of the snapshot's area
 pub record Standing : Type 0 where
@@ -49,6 +56,8 @@ standingAfter s (store t es) = pick (ltb (s .room) (lengthOf t)) s (record { ent
 standingAfter s (clearing i) = s
 standingAfter s (asking subject out) = s
 standingAfter s (resolving i subject out) = s
+standingAfter s (askingHome subject out) = s
+standingAfter s (resolvingHome i subject out) = s
 
 -- a refused text is refused as the grammar numbers it
 abbrev pub textFirst : Answer → Reply → Reply
@@ -71,6 +80,12 @@ Right s (asking subject out) r =
     × (peakDue (s .entries) subject ≤ worstOf (s .entries)) × (worstOf (s .entries) ≤ 1024)
 Right s (resolving i subject out) r =
     r ≡ demanded (due (s .entries) subject) subject (length out) (λ list. resolved list (singleHome list))
+-- the two that feed `single_home` count as a match and a resolve: refused when these are, with the verdict of their list
+Right s (askingHome subject out) r =
+    (r ≡ demanded (due (s .entries) subject) subject (length out) (λ list. home (singleHome list) (peakDue (s .entries) subject ∷ s .stores ∷ [])))
+    × (peakDue (s .entries) subject ≤ worstOf (s .entries)) × (worstOf (s .entries) ≤ 1024)
+Right s (resolvingHome i subject out) r =
+    r ≡ demanded (due (s .entries) subject) subject (length out) (λ list. home (singleHome list) [])
 
 -- each call takes states and areas as the last call on them, refused or not, returned and left them
 abbrev pub EachRight : Standing → Cabinet → List Call → Type 0
@@ -86,6 +101,21 @@ abbrev pub AllRight : Standing → List (Call × Reply × Cabinet) → Type 0
 AllRight s [] = Unit {0}
 AllRight s (x ∷ xs) = Right s (x .0) (x .1) × AllRight (standingAfter s (x .0)) xs
 
+-- a build is refused exactly when its list has over 2,048 entries (10), an entry's text lies outside the store or is no pattern (12, 13, the first such entry), the lent nodes are
+-- fewer than the distinct runs (14), the target words fewer than the entries (15), or the worst case is over 1,024 (16); otherwise it gives these two counts
+abbrev pub built : List Entry → List ℕ → ℕ → ℕ → ℕ → List TableEntry → Answer
+built list texts nodesLent targetsLent generation es =
+    pick (ltb 2048 (length list)) (answer 10 [])
+    (unless (badEntries texts 0 list)
+    (pick (ltb nodesLent (nodesOf es)) (answer 14 (nodesOf es ∷ []))
+    (pick (ltb targetsLent (length list)) (answer 15 [])
+    (pick (ltb 1024 (worstOf es)) (answer 16 (worstOf es ∷ 1024 ∷ []))
+    (answer 0 (nodesOf es ∷ worstOf es ∷ generation ∷ []))))))
+
+abbrev pub BuildRight : List Entry → List ℕ → ℕ → ℕ → ℕ → Type 0
+BuildRight list texts nodesLent targetsLent generation =
+    buildSays list texts nodesLent targetsLent generation ≡ built list texts nodesLent targetsLent generation (readFrom texts list)
+
 -- the making of the snapshot is refused exactly when its area is shorter than the first table, with 20, for a built table's counts are within its areas (19)
 abbrev pub SnapshotRight : Table → List ℕ → Type 0
 SnapshotRight t area = (make t area) .says ≡ pick (ltb (length area) (lengthOf t)) (answer 20 []) (answer 0 (snapshotNumbers (first t)))
@@ -99,26 +129,22 @@ pub record Opened (t : Table) (area : List ℕ) (b : Cabinet) : Type 0 where
   pub snapshotMade : make t area ≡ record { says = answer 0 (snapshotNumbers (b .snapshot)); area = b .words }
   pub cachesMade : (i : ℕ) → (n : ℕ) × (withCapacity n (b .caches i .area) ≡ answer 0 (cacheNumbers (b .caches i .cache)))
 
--- what the build's own theorem hands over
-pub record Laws : Type 1 where
-  -- an accepted build read these entries, and left this table in these areas
-  pub Built : Table → List TableEntry → Type 0
-  pub built-accepted : (t : Table) (es : List TableEntry) → Built t es → All Accepted es
-  pub built-worst : (t : Table) (es : List TableEntry) → Built t es → worstOf es ≤ 1024
-  pub built-holds : (t : Table) (es : List TableEntry) → Built t es → Holds (t .nodeWords) (t .nodes) (t .targets) (t .targetWords) (rootOf fnv es)
-
 -- "The tables come from accepted builds and are lent with their areas as build left them"
-abbrev pub Lent : Laws → Call → Type 0
-Lent laws (store t es) = laws .Built t es
-Lent laws (clearing i) = Unit {0}
-Lent laws (asking subject out) = Unit {0}
-Lent laws (resolving i subject out) = Unit {0}
+abbrev pub Lent : Call → Type 0
+Lent (store t es) = BuiltFrom t es
+Lent (clearing i) = Unit {0}
+Lent (asking subject out) = Unit {0}
+Lent (resolving i subject out) = Unit {0}
+Lent (askingHome subject out) = Unit {0}
+Lent (resolvingHome i subject out) = Unit {0}
 
 abbrev pub isStore : Call → ℕ
 isStore (store t es) = 1
 isStore (clearing i) = 0
 isStore (asking subject out) = 0
 isStore (resolving i subject out) = 0
+isStore (askingHome subject out) = 0
+isStore (resolvingHome i subject out) = 0
 
 abbrev pub storesIn : List Call → ℕ
 storesIn calls = sum (map isStore calls)
@@ -132,6 +158,8 @@ tokensIn (store t es) = tokensOf es
 tokensIn (clearing i) = []
 tokensIn (asking subject out) = literals (tokens subject)
 tokensIn (resolving i subject out) = literals (tokens subject)
+tokensIn (askingHome subject out) = literals (tokens subject)
+tokensIn (resolvingHome i subject out) = literals (tokens subject)
 
 abbrev pub inPlay : List TableEntry → List Call → List (List ℕ)
 inPlay es calls = tokensOf es ++ concat (map tokensIn calls)
@@ -141,10 +169,10 @@ abbrev pub HashedApart : List (List ℕ) → Type 0
 HashedApart ts = All (λ t. All (λ u. fnv t ≡ fnv u → t ≡ u) ts) ts
 
 -- the first table with the entries that its build read, and the calls
-pub record Premises (laws : Laws) (t : Table) (es : List TableEntry) (calls : List Call) : Type 0 where
+pub record Premises (t : Table) (es : List TableEntry) (calls : List Call) : Type 0 where
   -- "The tables come from accepted builds and are lent with their areas as build left them"
-  pub built : laws .Built t es
-  pub lent : All (Lent laws) calls
+  pub built : BuiltFrom t es
+  pub lent : All Lent calls
   -- "the first of generation 0"
   pub zeroth : t .generation .0 ≡ 0
   -- "There are fewer than 2^64 stores"
@@ -152,8 +180,9 @@ pub record Premises (laws : Laws) (t : Table) (es : List TableEntry) (calls : Li
   -- "and no two different literal tokens in play share a hash"
   pub apart : HashedApart (inPlay es calls)
 
--- demand 3: the makings and every call
+-- demand 3: builds, the makings and every call
 pub record Met (t : Table) (es : List TableEntry) (area : List ℕ) (b : Cabinet) (calls : List Call) : Type 0 where
+  pub buildsRight : (list : List Entry) (texts : List ℕ) (nodesLent targetsLent generation : ℕ) → BuildRight list texts nodesLent targetsLent generation
   pub snapshotRight : SnapshotRight t area
   pub cachesRight : (n : ℕ) (a : Area) → CacheRight n a
   pub callsRight : Opened t area b → EachRight (start es area) b calls

@@ -1,6 +1,7 @@
 -- The verdict, any list of calls on a snapshot and its caches, and demand 3.
 pub mod Verdict
+pub mod Answers
 pub mod Calls
-pub mod Demand
 pub mod Built
+pub mod Demand
 pub mod Timetable

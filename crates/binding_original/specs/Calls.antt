@@ -4,7 +4,7 @@ use mathlib.Core.Path.{_≡_}
 use mathlib.Core.Bool.{Bool, false}
 use mathlib.Core.List.{List, [], _∷_}
 use lib.Dec.{eqb, leb}
-use lib.ListN.{length}
+use lib.ListN.{length, getD}
 use Rattle.subject.specs.Choice.{pick, and, or}
 use Rattle.subject.specs.Answers.{answer}
 use Rattle.subject.specs.Original as subject
@@ -15,9 +15,9 @@ use Rattle.sublist_original.specs.Entries.{builderOf}
 use Rattle.binding.specs.declared.Resolution as verdict
 use Rattle.binding.specs.declared.Resolution.the-variants as variants
 use Rattle.binding.specs.Calls as ours
-use Rattle.binding.specs.Calls.{Call, store, clearing, asking, resolving, Cabinet, reply, after}
+use Rattle.binding.specs.Calls.{Call, store, clearing, asking, resolving, askingHome, resolvingHome, Cabinet, reply, after}
 use Rattle.binding_original.specs.Original as original
-use Rattle.binding_original.specs.Original.{SublistSnapshot, Iter, ResolveCache, Resolution, Routed, NoStream, Ambiguous, single-home, resolve-with, snapshot-match-into}
+use Rattle.binding_original.specs.Original.{SublistSnapshot, Iter, ResolveCache, Resolution, Routed, NoStream, Ambiguous, single-home, resolve, snapshot-match-into, resolve-single-home, resolve-single-home-cached}
 
 -- a snapshot, and a cache for each number
 pub record World : Type 0 where
@@ -33,23 +33,22 @@ pub data Asked : Type 0 where
   clears : ℕ → Asked
   matches : Str → Asked
   resolves : ℕ → Str → Asked
+  homes : Str → Asked
+  homesCached : ℕ → Str → Asked
 
--- what they answer; of a match or a resolve, the list and the verdict that `single_home` gives on it
+-- what they answer: the generation of a store; the list and generation of a match; the list of a resolve; the verdict of the two that feed `single_home`
 pub data Told : Type 0 where
   refused : Error → Told
   storing : ℕ → Told
   cleared : Told
-  matched : List ℕ → Resolution ℕ → ℕ → Told
-  resolved : List ℕ → Resolution ℕ → Told
+  matched : List ℕ → ℕ → Told
+  resolved : List ℕ → Told
+  home : Resolution ℕ → Told
 
 -- a text that `parse_literal` refuses goes no further
 abbrev pub parsed : subject.Result ℕ → World → Outcome (Told × World) → Outcome (Told × World)
 parsed (subject.Ok depth) w behind = behind
 parsed (subject.Err e) w behind = Ok (refused e, w)
-
--- what a resolve hands on: the list as `resolve` does, and the verdict as `resolve_single_home_cached` does
-abbrev pub both : List ℕ → List ℕ × Resolution ℕ
-both targets = (targets, single-home targets)
 
 -- what a call answers, and what is there then
 abbrev pub call : Std → Iter ℕ → World → Asked → Outcome (Told × World)
@@ -57,10 +56,16 @@ call std iter w (stores table) = Ok (storing (original.store (w .snapshot) table
 call std iter w (clears i) = Ok (cleared, with-cache w i (original.clear (w .caches i)))
 call std iter w (matches text) = parsed (validate text false) w do
   found ← snapshot-match-into std (w .snapshot) text []
-  Ok (matched (found .1) (single-home (found .1)) (found .0), w)
+  Ok (matched (found .1) (found .0), w)
 call std iter w (resolves i text) = parsed (validate text false) w do
-  given ← resolve-with std iter both (w .caches i) (w .snapshot) text
-  Ok (resolved (given .0 .0) (given .0 .1), with-cache w i (given .1))
+  given ← resolve std iter (w .caches i) (w .snapshot) text
+  Ok (resolved (given .0), with-cache w i (given .1))
+call std iter w (homes text) = parsed (validate text false) w do
+  verdict ← resolve-single-home std (w .snapshot) text
+  Ok (home verdict, w)
+call std iter w (homesCached i text) = parsed (validate text false) w do
+  given ← resolve-single-home-cached std iter (w .caches i) (w .snapshot) text
+  Ok (home (given .0), with-cache w i (given .1))
 
 -- ---- what is compared
 
@@ -69,13 +74,15 @@ verdictOf (Routed t) = variants.Routed t
 verdictOf NoStream = variants.NoStream
 verdictOf (Ambiguous n) = variants.Ambiguous n
 
--- an answer of theirs in our terms: a refusal has 01's number and values, and a match a peak, which theirs has not
-abbrev pub told : ℕ → Told → ours.Reply
-told peak (refused e) = ours.refused (answerOf (subject.Err e))
-told peak (storing g) = ours.storing g
-told peak cleared = ours.cleared
-told peak (matched list verdict g) = ours.matched list (verdictOf verdict) peak g
-told peak (resolved list verdict) = ours.resolved list (verdictOf verdict)
+-- an answer of theirs in our terms: a refusal has 01's number and values. `more` is what ours has besides: the peak of a match, and the generation of a verdict by a match.
+-- Of a list ours also has the verdict that `single_home` gives on it.
+abbrev pub told : List ℕ → Told → ours.Reply
+told more (refused e) = ours.refused (answerOf (subject.Err e))
+told more (storing g) = ours.storing g
+told more cleared = ours.cleared
+told more (matched list g) = ours.matched list (verdictOf (single-home list)) (getD more 0 0) g
+told more (resolved list) = ours.resolved list (verdictOf (single-home list))
+told more (home verdict) = ours.home (verdictOf verdict) more
 
 -- "added" refusals: 1, 2, 10 to 12, 14, 15 and 17 to 21
 abbrev pub addedNumber : ℕ → Bool
@@ -87,47 +94,46 @@ added (ours.storing g) = false
 added ours.cleared = false
 added (ours.matched list verdict peak g) = false
 added (ours.resolved list verdict) = false
+added (ours.home verdict values) = false
 
--- their call does not panic, our answer is theirs, and `rest` holds of what is there then
-abbrev pub Answered : ours.Reply → Outcome (Told × World) → (World → Type 0) → Type 0
-Answered r given rest = (x : Told × World) × (given ≡ Ok x) × ((peak : ℕ) × (r ≡ told peak (x .0))) × rest (x .1)
+-- their call does not panic, our answer is theirs if `compared` says that it is to be, and `rest` holds of what is there then
+abbrev pub Answered : Bool → ours.Reply → Outcome (Told × World) → (World → Type 0) → Type 0
+Answered compared r given rest = (x : Told × World) × (given ≡ Ok x) × (pick compared ((more : List ℕ) × (r ≡ told more (x .0))) (Unit {0})) × rest (x .1)
 
--- "a call refused by an added number is not made on the Rust's side"; any other is, and the answers are the same
-abbrev pub Compared : ours.Reply → World → Outcome (Told × World) → (World → Type 0) → Type 0
-Compared r w given rest = pick (added r) (rest w) (Answered r given rest)
-
-module _ (std : Std) (iter : Iter ℕ) where
-  abbrev pub EachSame : Cabinet → World → List (Call × Asked) → Type 0
-  EachSame b w [] = Unit {0}
-  EachSame b w ((c, d) ∷ rest) = Compared (reply b c) w (call std iter w d) (λ v. EachSame (after b c) v rest)
+-- "a call refused by an added number is not made on the Rust's side"; any other is
+abbrev pub Compared : Bool → ours.Reply → World → Outcome (Told × World) → (World → Type 0) → Type 0
+Compared compared r w given rest = pick (added r) (rest w) (Answered compared r given rest)
 
 -- an original's table of these entries: at most 2,048, for 10 is added
 abbrev pub TableOf : Std → List TableEntry → Sublist ℕ → Type 0
 TableOf std es table = (length es ≤ 2048) × (generation : ℕ) × (build std (builderOf es) generation ≡ Ok table)
 
--- the two are the same call; a store's table has the same entries
-abbrev pub SameCall : Std → Call × Asked → Type 0
-SameCall std (store t es, stores table) = TableOf std es table
-SameCall std (store t es, clears i) = ⊥
-SameCall std (store t es, matches text) = ⊥
-SameCall std (store t es, resolves i text) = ⊥
-SameCall std (clearing i, stores table) = ⊥
-SameCall std (clearing i, clears j) = i ≡ j
-SameCall std (clearing i, matches text) = ⊥
-SameCall std (clearing i, resolves j text) = ⊥
-SameCall std (asking subject out, stores table) = ⊥
-SameCall std (asking subject out, clears i) = ⊥
-SameCall std (asking subject out, matches text) = subject ≡ text
-SameCall std (asking subject out, resolves i text) = ⊥
-SameCall std (resolving i subject out, stores table) = ⊥
-SameCall std (resolving i subject out, clears j) = ⊥
-SameCall std (resolving i subject out, matches text) = ⊥
-SameCall std (resolving i subject out, resolves j text) = (i ≡ j) × (subject ≡ text)
+-- the original's call for ours; a store stores `table`
+abbrev pub asked : Sublist ℕ → Call → Asked
+asked table (store t es) = stores table
+asked table (clearing i) = clears i
+asked table (asking subject out) = matches subject
+asked table (resolving i subject out) = resolves i subject
+asked table (askingHome subject out) = homes subject
+asked table (resolvingHome i subject out) = homesCached i subject
 
--- a fresh snapshot of a table with these entries, and fresh caches
-pub record Fresh (std : Std) (es : List TableEntry) (w : World) : Type 0 where
+-- which has the same entries
+abbrev pub Tabled : Std → Sublist ℕ → Call → Type 0
+Tabled std table (store t es) = TableOf std es table
+Tabled std table (clearing i) = Unit {0}
+Tabled std table (asking subject out) = Unit {0}
+Tabled std table (resolving i subject out) = Unit {0}
+Tabled std table (askingHome subject out) = Unit {0}
+Tabled std table (resolvingHome i subject out) = Unit {0}
+
+-- the two are the same call
+abbrev pub SameCall : Std → Call × Asked → Type 0
+SameCall std (c, d) = (table : Sublist ℕ) × (d ≡ asked table c) × Tabled std table c
+
+-- a fresh snapshot of a table with these entries, built with this generation, and fresh caches
+pub record Fresh (std : Std) (es : List TableEntry) (generation : ℕ) (w : World) : Type 0 where
   pub table : Sublist ℕ
   pub few : length es ≤ 2048
-  pub built : build std (builderOf es) 0 ≡ Ok table
+  pub built : build std (builderOf es) generation ≡ Ok table
   pub made : w .snapshot ≡ original.new table
   pub caches : (i : ℕ) → (n : ℕ) × (w .caches i ≡ original.with-capacity n)
