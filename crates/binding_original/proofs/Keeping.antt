@@ -1,5 +1,10 @@
--- The original's cache: where it is on the standing table's generation, its entries are what a walk gives.
-use Prim.Native.Nat.{ℕ, suc, _≤_}
+-- The original's cache: what a resolve hands on and leaves; and, while no two tables that stood had one generation, its entries are what a walk gives where it is on the standing table's.
+--
+--   resolve-gives      a resolve hands on the entry's list, or what a walk gives, and leaves what leftOf says
+--   trusty-list        Trusty → that list is what a walk gives
+--   left-trusty        Trusty → and what is left is Trusty again
+--   stored-trusty, clear-trusty, fresh-trusty
+use Prim.Native.Nat.{ℕ}
 use native.Mathlib.Omega.{arith}
 use mathlib.Core.Path.{_≡_, refl, sym, _∙_, ap, subst}
 use mathlib.Core.Bool.{Bool, true, false}
@@ -8,11 +13,17 @@ use mathlib.Core.Option.{Option, none, some}
 use lib.Dec.{eqb, ltb}
 use lib.ListN.{length}
 use borrow.Author.Tests.{eqb-true}
+use Rattle.subject.specs.Choice.{or}
 use Rattle.subject.specs.Original.{if_then_else_, equal}
 use Rattle.sublist_tree.specs.Table.{TableEntry}
+use Rattle.sublist_walk.specs.Walk.{among}
 use Rattle.sublist_original.specs.Original.{Ok, Std}
 use Rattle.binding_original.specs.Original.{SublistSnapshot, CacheEntry, HashMap, Iter, ResolveCache, Each, get, refresh, remove, with-capacity, clear, guarded, without, evict-if-full, hit, miss, looked-up, resolve-with, wrapping-add}
 use Rattle.binding_original.proofs.Stamping.{walkedBy, Walks}
+
+pub or-false : (x y : Bool) → or x y ≡ false → (x ≡ false) × (y ≡ false)
+or-false true y e = (e, cc)
+or-false false y e = (refl, e)
 
 pub equal-sound : (xs ys : List ℕ) → equal xs ys ≡ true → xs ≡ ys
 equal-sound [] [] e = refl
@@ -65,61 +76,84 @@ module _ (due : List ℕ → List ℕ) where
       go false none = a
       go false (some victim) = remove-kept (cache .entries) (victim .0) a
 
--- what holds of a cache between calls: g is the standing table's generation
-pub record Trusty (due : List ℕ → List ℕ) (g : ℕ) (cache : ResolveCache ℕ) : Type 0 where
-  pub past : cache .generation ≤ g
+-- ---- a resolve
+
+-- the entry's list, or the list that a walk gives
+abbrev pub listOf : List ℕ → Option (CacheEntry ℕ) → List ℕ
+listOf list (some e) = e .targets
+listOf list none = list
+
+-- what is left of a cache that is on the table's generation
+abbrev pub leftOf : Iter ℕ → ResolveCache ℕ → List ℕ → List ℕ → Option (CacheEntry ℕ) → ResolveCache ℕ
+leftOf iter on text list (some e) = hit on text
+leftOf iter on text list none = miss iter on text list
+
+pub resolve-gives : (std : Std) (iter : Iter ℕ) {R : Type 0} (f : List ℕ → R) (es : List TableEntry) (snapshot : SublistSnapshot ℕ) (cache : ResolveCache ℕ) (g : ℕ) (text : List ℕ)
+    → Walks std es (snapshot .current) → snapshot .current .generation ≡ g
+    → resolve-with std iter f cache snapshot text
+    ≡ Ok (f (listOf (walkedBy es text) (get ((guarded g cache) .entries) text)), leftOf iter (guarded g cache) text (walkedBy es text) (get ((guarded g cache) .entries) text))
+resolve-gives std iter f es snapshot cache g text walks gen =
+    ap (λ h. looked-up std iter f (guarded h cache) (snapshot .current) text (get ((guarded h cache) .entries) text)) gen ∙ go (guarded g cache) (get ((guarded g cache) .entries) text)
+  where
+    go : (on : ResolveCache ℕ) (r : Option (CacheEntry ℕ))
+        → looked-up std iter f on (snapshot .current) text r ≡ Ok (f (listOf (walkedBy es text) r), leftOf iter on text (walkedBy es text) r)
+    go on (some e) = refl
+    go on none = rw (walks text [])
+
+-- ---- what holds between calls
+
+-- g is the standing table's generation, stood are those of the tables that stood
+pub record Trusty (due : List ℕ → List ℕ) (g : ℕ) (stood : List ℕ) (cache : ResolveCache ℕ) : Type 0 where
+  -- a cache that is on none of them is empty
+  pub past : among (cache .generation) stood ≡ false → cache .entries ≡ []
   pub kept : cache .generation ≡ g → Each (Kept due) (cache .entries)
 
-pub fresh-trusty : (due : List ℕ → List ℕ) (n : ℕ) → Trusty due 0 (with-capacity n)
-fresh-trusty due n = record { past = omega arith; kept = λ e. tt }
+pub fresh-trusty : (due : List ℕ → List ℕ) (g : ℕ) (stood : List ℕ) (n : ℕ) → Trusty due g stood (with-capacity n)
+fresh-trusty due g stood n = record { past = λ e. refl; kept = λ e. tt }
 
-pub stored-trusty : (due later : List ℕ → List ℕ) (g : ℕ) (cache : ResolveCache ℕ) → Trusty due g cache → Trusty later (suc g) cache
-stored-trusty due later g cache t = record { past = omega (arith, t .past); kept = λ e. absurd (omega (arith, t .past)) }
+pub clear-trusty : (due : List ℕ → List ℕ) (g : ℕ) (stood : List ℕ) (cache : ResolveCache ℕ) → Trusty due g stood (clear cache)
+clear-trusty due g stood cache = record { past = λ e. refl; kept = λ e. tt }
 
-pub clear-trusty : (due : List ℕ → List ℕ) (g : ℕ) (cache : ResolveCache ℕ) → Trusty due g cache → Trusty due g (clear cache)
-clear-trusty due g cache t = record { past = t .past; kept = λ e. tt }
+-- a table with a new generation
+pub stored-trusty : (due later : List ℕ → List ℕ) (g h : ℕ) (stood : List ℕ) (cache : ResolveCache ℕ) → among h stood ≡ false → Trusty due g stood cache → Trusty later h (h ∷ stood) cache
+stored-trusty due later g h stood cache new t = record {
+  past = λ e. t .past (or-false (eqb (cache .generation) h) (among (cache .generation) stood) e .1);
+  kept = λ e. subst (Each (Kept later)) (sym (t .past (ap (λ k. among k stood) e ∙ new))) tt;
+}
 
--- on the standing table's generation
-abbrev On : (List ℕ → List ℕ) → ℕ → ResolveCache ℕ → Type 0
-On due g cache = (cache .generation ≡ g) × Each (Kept due) (cache .entries)
+module _ (due : List ℕ → List ℕ) (g : ℕ) (stood : List ℕ) (cache : ResolveCache ℕ) (t : Trusty due g stood cache) where
+  abbrev on : ResolveCache ℕ
+  on = guarded g cache
 
-guarded-on : (due : List ℕ → List ℕ) (g : ℕ) (cache : ResolveCache ℕ) → Trusty due g cache → On due g (guarded g cache)
-guarded-on due g cache t = go (eqb g (cache .generation)) refl
-  where
-    go : (b : Bool) → eqb g (cache .generation) ≡ b
-        → On due g (if b then cache else record { entries = []; generation = g; capacity = cache .capacity; tick = 0; walks = cache .walks })
-    go true q = let e = sym (eqb-true g (cache .generation) q) in (e, t .kept e)
-    go false q = (refl, tt)
+  guarded-kept : ((guarded g cache) .generation ≡ g) × Each (Kept due) ((guarded g cache) .entries)
+  guarded-kept = go (eqb g (cache .generation)) refl
+    where
+      go : (b : Bool) → eqb g (cache .generation) ≡ b
+          → ((if b then cache else record { entries = []; generation = g; capacity = cache .capacity; tick = 0; walks = cache .walks }) .generation ≡ g)
+          × Each (Kept due) ((if b then cache else record { entries = []; generation = g; capacity = cache .capacity; tick = 0; walks = cache .walks }) .entries)
+      go true q = let e = sym (eqb-true g (cache .generation) q) in (e, t .kept e)
+      go false q = (refl, tt)
 
-on-trusty : (due : List ℕ → List ℕ) (g : ℕ) (cache : ResolveCache ℕ) → On due g cache → Trusty due g cache
-on-trusty due g cache o = record { past = omega (arith, o .0); kept = λ e. o .1 }
-
--- a resolve hands on what a walk gives, and leaves a cache of which the same holds
-pub resolve-trusty : (std : Std) (iter : Iter ℕ) {R : Type 0} (f : List ℕ → R) (es : List TableEntry) (snapshot : SublistSnapshot ℕ) (cache : ResolveCache ℕ) (g : ℕ)
-    → Walks std es (snapshot .current) → snapshot .current .generation ≡ g → Trusty (walkedBy es) g cache → (text : List ℕ)
-    → (x : ResolveCache ℕ) × (resolve-with std iter f cache snapshot text ≡ Ok (f (walkedBy es text), x)) × Trusty (walkedBy es) g x
-resolve-trusty std iter f es snapshot cache g walks gen t text =
-    subst (λ h. (x : ResolveCache ℕ)
-    × (looked-up std iter f (guarded h cache) (snapshot .current) text (get ((guarded h cache) .entries) text) ≡ Ok (f (walkedBy es text), x))
-    × Trusty (walkedBy es) g x) (sym gen) (go (guarded g cache) (guarded-on (walkedBy es) g cache t))
-  where
-    go : (on : ResolveCache ℕ) → On (walkedBy es) g on → (x : ResolveCache ℕ)
-        × (looked-up std iter f on (snapshot .current) text (get (on .entries) text) ≡ Ok (f (walkedBy es text), x)) × Trusty (walkedBy es) g x
-    go on o = by (get (on .entries) text) refl
+  module _ (text : List ℕ) where
+    pub trusty-list : listOf (due text) (get (on .entries) text) ≡ due text
+    trusty-list = go (get (on .entries) text) refl
       where
-        by : (r : Option (CacheEntry ℕ)) → get (on .entries) text ≡ r → (x : ResolveCache ℕ)
-            × (looked-up std iter f on (snapshot .current) text r ≡ Ok (f (walkedBy es text), x)) × Trusty (walkedBy es) g x
-        by (some e) q = (
-          hit on text,
-          ap (λ l. Ok (f l, hit on text)) (get-kept (walkedBy es) (on .entries) text e (o .1) q),
-          on-trusty (walkedBy es) g (hit on text) (o .0, refresh-kept (walkedBy es) (on .entries) text (wrapping-add (on .tick) 1) (o .1)),
-        )
-        by none q = (
-          miss iter on text (walkedBy es text),
-          rw (walks text []),
-          on-trusty (walkedBy es) g (miss iter on text (walkedBy es text)) (
-            o .0,
-            push-kept (walkedBy es) (remove (evict-if-full iter on) text) (text, record { targets = walkedBy es text; last-used = wrapping-add (on .tick) 1 })
-                (remove-kept (walkedBy es) (evict-if-full iter on) text (evict-kept (walkedBy es) iter on (o .1))) refl,
-          ),
-        )
+        go : (r : Option (CacheEntry ℕ)) → get (on .entries) text ≡ r → listOf (due text) r ≡ due text
+        go (some e) q = get-kept due (on .entries) text e (guarded-kept .1) q
+        go none q = refl
+
+    -- the standing table's generation is among those that stood
+    pub left-trusty : (iter : Iter ℕ) → among g stood ≡ true → Trusty due g stood (leftOf iter on text (due text) (get (on .entries) text))
+    left-trusty iter stands = go (get (on .entries) text)
+      where
+        again : (x : ResolveCache ℕ) → x .generation ≡ (guarded g cache) .generation → Each (Kept due) (x .entries) → Trusty due g stood x
+        again x e k = record {
+          past = λ q. let same : among (x .generation) stood ≡ true = ap (λ n. among n stood) (e ∙ guarded-kept .0) ∙ stands in let z : _≡_ {A = ℕ} 0 1 = cc in absurd (omega arith);
+          kept = λ q. k;
+        }
+
+        go : (r : Option (CacheEntry ℕ)) → Trusty due g stood (leftOf iter on text (due text) r)
+        go (some e) = again (hit on text) refl (refresh-kept due (on .entries) text (wrapping-add (on .tick) 1) (guarded-kept .1))
+        go none = again (miss iter on text (due text)) refl
+            (push-kept due (remove (evict-if-full iter on) text) (text, record { targets = due text; last-used = wrapping-add (on .tick) 1 })
+            (remove-kept due (evict-if-full iter on) text (evict-kept due iter on (guarded-kept .1))) refl)

@@ -3,11 +3,17 @@ pub mod Stamping
 pub mod Keeping
 pub mod Maps
 pub mod Smallest
--- Its answers are ours, whatever the calls.
-pub mod SameCalls
--- Its caches are ours, until a resolve that ours does not keep.
+-- A cache of ours, whatever the generations.
+pub mod OurCache
+-- The two caches are the same, until a resolve that ours does not keep; and a resolve on both.
+pub mod Near
 pub mod SameCache
 pub mod SameResolve
-pub mod SameCaches
--- Both, with nothing left open.
+-- A subject's text on both sides.
+pub mod Texts
+-- Every list of calls.
+pub mod Together
+pub mod Resolves
+pub mod SameCalls
+-- The theorem, with nothing left open.
 pub mod Whole

@@ -1,4 +1,8 @@
--- A resolve leaves a cache of the original's and one of ours the same, while the tick does not wrap and the list is kept.
+-- A cache of the original's and one of ours stay the same in a hit and in a miss that is kept, while the tick does not wrap.
+-- Where it wraps, two entries may have one stamp, and the original's choice between them is open.
+--
+--   hit-near     Near m e a o → a slot keeps the subject → Near (suc m) of the two caches behind a hit
+--   miss-near    Near m e a o → no slot keeps it, its list can be kept → Near (suc m) of the two caches behind a miss
 use Prim.Native.Nat.{ℕ, zero, suc, _+_, _-_, _≤_, _<_, _^_}
 use native.Mathlib.Omega.{arith}
 use native.Mathlib.Nat.{mod-eq-of-lt}
@@ -12,16 +16,16 @@ use lib.ListN.{length}
 use borrow.Author.Tests.{eqb-true, eqb-false, ltb-true, ltb-false}
 use Rattle.subject.specs.Choice.{pick}
 use Rattle.subject.specs.Original.{if_then_else_, equal}
-use Rattle.sublist_snapshot.specs.declared.Generation.{Generation}
 use Rattle.sublist_snapshot.specs.Snapshot.{wrap}
 use Rattle.resolve_cache.specs.declared.ResolveCache.{ResolveCache}
 use Rattle.resolve_cache.specs.Area.{Area, stampAt, keyAt, targetsAt, keep, touch}
-use Rattle.resolve_cache.specs.Cache.{ticked, emptied, hit, grown, place, oldestFrom}
+use Rattle.resolve_cache.specs.Cache.{ticked, hit, grown, place, oldestFrom}
 use Rattle.resolve_cache.proofs.Slots.{touch-alike, touch-stamp, touch-stamp-other, keep-key, keep-targets, keep-stamp, keep-other, keep-stamp-other, oldest-least, oldest-below}
-use Rattle.resolve_cache.proofs.Faithful.{Faithful}
 use Rattle.binding_original.specs.Original as original
-use Rattle.binding_original.specs.Original.{CacheEntry, HashMap, Each, Iter, wrapping-add, without, miss}
-use Rattle.binding_original.specs.Caches.{row, SameKept}
+use Rattle.binding_original.specs.Original.{CacheEntry, HashMap, Iter, wrapping-add, without, miss}
+use Rattle.binding_original.specs.Caches.{row}
+use Rattle.binding_original.proofs.Near.{Near}
+use Rattle.binding_original.proofs.OurCache.{Keeps, Anything}
 use Rattle.binding_original.proofs.Maps.{equal-whole, equal-other, each-at, Once, absent-of, upd, refresh-length, refresh-to, refresh-from, refresh-once, remove-absent, remove-from, remove-to, remove-once, remove-length, push-length, push-old, push-new, push-from, push-once}
 
 abbrev Pair : Type 0
@@ -31,39 +35,7 @@ pair-is : (k l : List ℕ) (xs ys : List ℕ) (s t : ℕ) → k ≡ l → xs ≡
     → _≡_ {A = Pair} (k, record { targets = xs; last-used = s }) (l, record { targets = ys; last-used = t })
 pair-is k l xs ys s t p q r = rw (p, q, r)
 
--- the same, with what keeps them so: no subject twice, no stamp twice, and none above the tick, which is at most m
-pub record Near (m : ℕ) (c : ResolveCache) (a : Area) (o : original.ResolveCache ℕ) : Type 0 where
-  pub same : SameKept (record { cache = c; area = a }) o
-  pub once : Once (o .entries)
-  pub apart : (i j : ℕ) → i < c .used → j < c .used → keyAt (a .heads) (a .keys) i ≡ keyAt (a .heads) (a .keys) j → i ≡ j
-  pub stamps : (i j : ℕ) → i < c .used → j < c .used → stampAt (a .heads) i ≡ stampAt (a .heads) j → i ≡ j
-  pub under : (i : ℕ) → i < c .used → stampAt (a .heads) i ≤ c .tick .0
-  pub low : c .tick .0 ≤ m
-
-pub near-later : (m : ℕ) (c : ResolveCache) (a : Area) (o : original.ResolveCache ℕ) → Near m c a o → Near (suc m) c a o
-near-later m c a o n = record { same = n .same; once = n .once; apart = n .apart; stamps = n .stamps; under = n .under; low = omega (arith, n .low) }
-
--- emptied on both sides
-pub emptied-near : (m : ℕ) (g : Generation) (c : ResolveCache) (a : Area) (o : original.ResolveCache ℕ) → Near m c a o
-    → Near m (emptied g c) a (record { entries = []; generation = g .0; capacity = o .capacity; tick = 0; walks = o .walks })
-emptied-near m g c a o n = record {
-  same = record {
-    capacity = n .same .capacity;
-    generation = refl;
-    tick = refl;
-    walks = n .same .walks;
-    used = refl;
-    kept = λ i h. absurd (omega arith);
-    only = λ x p. absurd (each-at (λ y. ⊥) [] x tt p);
-  };
-  once = tt;
-  apart = λ i j h k e. absurd (omega arith);
-  stamps = λ i j h k e. absurd (omega arith);
-  under = λ i h. absurd (omega arith);
-  low = omega arith;
-}
-
-module _ (due : List ℕ → List ℕ) (g m : ℕ) (e : ResolveCache) (a : Area) (o : original.ResolveCache ℕ) (fe : Faithful due g e a) (n : Near m e a o) (few : suc m < 2 ^ 64) where
+module _ (m : ℕ) (e : ResolveCache) (a : Area) (o : original.ResolveCache ℕ) (fe : Keeps Anything e a) (n : Near m e a o) (few : suc m < 2 ^ 64) where
   abbrev t : ℕ
   t = ticked e .0
 

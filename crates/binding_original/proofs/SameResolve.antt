@@ -1,189 +1,217 @@
--- A resolve on both sides: refused, it changes nothing; accepted, and with a list that is kept, it leaves the two caches the same.
-use Prim.Native.Nat.{ℕ, zero, suc, _*_, _≤_, _<_, _^_}
+-- What holds of a cache of ours and one of the original's between calls, and that each call keeps it; and a resolve gives the same list on both sides where lists are compared.
+--
+--   same-list       Sound → not (and spoiled mixed) ≡ true → the list that ours hands back is the one that theirs hands on
+--   left-sound      Sound → Sound of what a resolve leaves on both sides
+--   fresh-sound, later-sound, cleared-sound, stored-sound
+use Prim.Native.Nat.{ℕ, suc, _<_, _^_, max}
 use native.Mathlib.Omega.{arith}
-use mathlib.Core.Path.{_≡_, refl, sym, _∙_, ap, subst}
+use mathlib.Core.Path.{_≡_, refl, sym, _∙_, ap}
 use mathlib.Core.Bool.{Bool, true, false, not}
 use mathlib.Core.List.{List, [], _∷_}
 use mathlib.Core.Option.{Option, none, some}
 use lib.Dec.{eqb, ltb}
-use lib.ListN.{length, take, drop}
-use lib.Seq.{take-append-seam}
-use borrow.Author.Tests.{ltb-false, le-ltb, eqb-true, eqb-false, ne-eqb}
-use Rattle.subject.specs.Choice.{pick, or}
-use Rattle.subject.specs.Answers.{Answer, answer}
-use Rattle.subject.specs.Grammar.{grammar}
+use lib.ListN.{length}
+use borrow.Author.Tests.{ltb-false, eqb-true, eqb-false}
+use Rattle.subject.specs.Choice.{pick, and, or}
+use Rattle.subject.specs.Answers.{answer}
 use Rattle.subject.specs.Original.{if_then_else_}
-use Rattle.sublist_original.specs.Original.{Ok, _>>=_, Std, Sublist, match-into}
-use Rattle.sublist_walk.specs.Walk.{found}
-use Rattle.sublist_walk.specs.Matching.{over}
-use Rattle.sublist_snapshot.specs.declared.Snapshot.{Snapshot}
-use Rattle.sublist_snapshot.specs.Snapshot.{standsIn, walkOf}
+use Rattle.sublist_walk.specs.Walk.{among}
+use Rattle.sublist_snapshot.specs.declared.Generation.{Generation}
 use Rattle.resolve_cache.specs.declared.ResolveCache.{ResolveCache}
-use Rattle.resolve_cache.specs.Area.{Area, targetCount, keep, touch}
-use Rattle.resolve_cache.specs.Cache.{short, bad, findFrom, place, emptied, adopt, ticked, hit, walked, grown, qualifies, inKept, inOut, Handed, turnedBack, gives, handed, Resolved, unchanged, hitAt, miss, workBy, work, ifAccepted, resolveBy, resolve}
-use Rattle.resolve_cache.proofs.Slots.{wide-short, small-good, find-sound, find-none}
-use Rattle.resolve_cache.proofs.Faithful.{Faithful}
+use Rattle.resolve_cache.specs.Area.{Area, keep}
+use Rattle.resolve_cache.specs.Cache.{cacheNumbers, withCapacity, emptied, clear, adopt, ticked, walked, grown, place, qualifies}
+use Rattle.resolve_cache.proofs.Slots.{find-sound, find-none}
+use Rattle.resolve_cache.proofs.Faithful.{fresh-faithful}
+use Rattle.binding.specs.Calls.{Kept}
 use Rattle.binding_original.specs.Original as original
-use Rattle.binding_original.specs.Original.{CacheEntry, Iter, guarded, get, looked-up}
+use Rattle.binding_original.specs.Original.{CacheEntry, Iter, guarded, get, miss}
 use Rattle.binding_original.specs.Caches.{row}
+use Rattle.binding_original.proofs.Keeping.{or-false, listOf, leftOf, Trusty, fresh-trusty, clear-trusty, stored-trusty, trusty-list, left-trusty}
 use Rattle.binding_original.proofs.Maps.{each-at, get-none, get-some}
-use Rattle.binding_original.proofs.SameCache.{Near, emptied-near, hit-near, miss-near}
+use Rattle.binding_original.proofs.OurCache.{Keeps, Anything, emptied-keeps, adopted-keeps, adopted-generation, slotOf, listed, leftBy, left-keeps, left-generation}
+use Rattle.binding_original.proofs.Near.{Near, near-later, emptied-near, cleared-near, fresh-zero, fresh-near}
+use Rattle.binding_original.proofs.SameCache.{hit-near, miss-near}
 
--- adopting a generation
-module _ (due : List ℕ → List ℕ) (g m : ℕ) (c : ResolveCache) (a : Area) (o : original.ResolveCache ℕ) (f : Faithful due g c a) (n : Near m c a o) where
-  adopted-faithful : Faithful due g (adopt (record { 0 = g }) c) a
-  adopted-faithful = go (eqb (c .generation .0) g) refl
-    where
-      go : (b : Bool) → eqb (c .generation .0) g ≡ b → Faithful due g (pick b c (emptied (record { 0 = g }) c)) a
-      go true q = f
-      go false q = record {
-        wide = f .wide;
-        any = f .any;
-        fits = omega arith;
-        small = λ i h. absurd (omega arith);
-        past = omega arith;
-        right = λ p i h. absurd (omega arith);
-      }
+-- the lists are what a function gives for their subjects
+abbrev Dues : (List ℕ → List ℕ) → List ℕ → List ℕ → Type 0
+Dues due key list = list ≡ due key
 
-  adopted-near : Near m (adopt (record { 0 = g }) c) a (guarded g o)
-  adopted-near = go (eqb (c .generation .0) g) refl (eqb g (o .generation)) refl
+-- `due` is what a walk of the standing table gives, g its generation, `stood` are the generations of the tables that stood, `mixed` says that two had one, `spoiled` that ours did not keep a list
+pub record Sound (spoiled mixed : Bool) (stood : List ℕ) (due : List ℕ → List ℕ) (g : Generation) (m : ℕ) (k : Kept) (o : original.ResolveCache ℕ) : Type 0 where
+  pub fit : Keeps Anything (k .cache) (k .area)
+  pub near : spoiled ≡ false → Near m (k .cache) (k .area) o
+  -- while no two had one, both sides' lists are right
+  pub past : mixed ≡ false → among (k .cache .generation .0) stood ≡ false → 0 ≡ k .cache .used
+  pub right : mixed ≡ false → k .cache .generation .0 ≡ g .0 → Keeps (Dues due) (k .cache) (k .area)
+  pub theirs : mixed ≡ false → Trusty due (g .0) stood o
+
+none-used : (P : List ℕ → List ℕ → Type 0) (c : ResolveCache) (a : Area) → Keeps Anything c a → 0 ≡ c .used → Keeps P c a
+none-used P c a f z = record { wide = f .wide; any = f .any; fits = f .fits; small = f .small; each = λ i h. absurd (omega (arith, z, h)) }
+
+pub later-sound : (spoiled then′ mixed : Bool) (stood : List ℕ) (due : List ℕ → List ℕ) (g : Generation) (m : ℕ) (k : Kept) (o : original.ResolveCache ℕ) → (then′ ≡ false → spoiled ≡ false)
+    → Sound spoiled mixed stood due g m k o → Sound then′ mixed stood due g (suc m) k o
+later-sound spoiled then′ mixed stood due g m k o less s = record {
+  fit = s .fit;
+  near = λ e. near-later m (k .cache) (k .area) o (s .near (less e));
+  past = s .past;
+  right = s .right;
+  theirs = s .theirs;
+}
+
+pub fresh-sound : (stood : List ℕ) (due : List ℕ → List ℕ) (g : Generation) (k : Kept) (n p : ℕ) → withCapacity n (k .area) ≡ answer 0 (cacheNumbers (k .cache)) → max p 1 ≡ k .cache .capacity
+    → Sound false false stood due g 0 k (original.with-capacity p)
+fresh-sound stood due g k n p e same = record {
+  fit = fit;
+  near = λ q. fresh-near (k .cache) (k .area) p n e same;
+  past = λ q r. fresh-zero n (k .cache) (k .area) e .0;
+  right = λ q r. none-used (Dues due) (k .cache) (k .area) fit (fresh-zero n (k .cache) (k .area) e .0);
+  theirs = λ q. fresh-trusty due (g .0) stood p;
+}
+  where
+    fit : Keeps Anything (k .cache) (k .area)
+    fit = let f = fresh-faithful (λ x. []) n (k .cache) (k .area) e in record { wide = f .wide; any = f .any; fits = f .fits; small = f .small; each = λ i h. tt }
+
+-- a table is stored
+pub stored-sound : (spoiled then′ mixed : Bool) (stood : List ℕ) (due later : List ℕ → List ℕ) (g h : Generation) (m : ℕ) (k : Kept) (o : original.ResolveCache ℕ) → (then′ ≡ false → spoiled ≡ false)
+    → Sound spoiled mixed stood due g m k o → Sound then′ (or mixed (among (h .0) stood)) (h .0 ∷ stood) later h (suc m) k o
+stored-sound spoiled then′ mixed stood due later g h m k o less s = record {
+  fit = s .fit;
+  near = λ e. near-later m (k .cache) (k .area) o (s .near (less e));
+  past = λ q e. s .past (apart q .0) (or-false (eqb (k .cache .generation .0) (h .0)) (among (k .cache .generation .0) stood) e .1);
+  right = λ q e. none-used (Dues later) (k .cache) (k .area) (s .fit) (s .past (apart q .0) (ap (λ n. among n stood) e ∙ apart q .1));
+  theirs = λ q. stored-trusty due later (g .0) (h .0) stood o (apart q .1) (s .theirs (apart q .0));
+}
+  where
+    apart : or mixed (among (h .0) stood) ≡ false → (mixed ≡ false) × (among (h .0) stood ≡ false)
+    apart = or-false mixed (among (h .0) stood)
+
+module _ (spoiled mixed : Bool) (stood : List ℕ) (due : List ℕ → List ℕ) (g : Generation) (m : ℕ) (c : ResolveCache) (a : Area) (o : original.ResolveCache ℕ)
+    (s : Sound spoiled mixed stood due g m (record { cache = c; area = a }) o) where
+  pub cleared-sound : (then′ : Bool) → (then′ ≡ false → spoiled ≡ false) → Sound then′ mixed stood due g (suc m) (record { cache = clear c; area = a }) (original.clear o)
+  unfolding clear
+  cleared-sound then′ less = record {
+    fit = emptied-keeps Anything (c .generation) c a (s .fit);
+    near = λ e. near-later m (clear c) a (original.clear o) (cleared-near m c a o (s .near (less e)));
+    past = λ q e. refl;
+    right = λ q e. emptied-keeps (Dues due) (c .generation) c a (s .fit);
+    theirs = λ q. clear-trusty due (g .0) stood o;
+  }
+
+  -- ---- a resolve
+
+  abbrev e : ResolveCache
+  e = adopt g c
+
+  abbrev on : original.ResolveCache ℕ
+  on = guarded (g .0) o
+
+  fit-on : Keeps Anything e a
+  fit-on = adopted-keeps Anything g c a (s .fit) (λ z. s .fit)
+
+  near-on : spoiled ≡ false → Near m e a on
+  near-on clean = go (eqb (c .generation .0) (g .0)) refl (eqb (g .0) (o .generation)) refl
     where
-      go : (b : Bool) → eqb (c .generation .0) g ≡ b → (d : Bool) → eqb g (o .generation) ≡ d
-          → Near m (pick b c (emptied (record { 0 = g }) c)) a (if d then o else record { entries = []; generation = g; capacity = o .capacity; tick = 0; walks = o .walks })
+      n : Near m c a o
+      n = s .near clean
+
+      go : (b : Bool) → eqb (c .generation .0) (g .0) ≡ b → (d : Bool) → eqb (g .0) (o .generation) ≡ d
+          → Near m (pick b c (emptied g c)) a (if d then o else record { entries = []; generation = g .0; capacity = o .capacity; tick = 0; walks = o .walks })
       go true p true q = n
-      go false p false q = emptied-near m (record { 0 = g }) c a o n
-      go true p false q = absurd (eqb-false g (o .generation) q (sym (eqb-true (c .generation .0) g p) ∙ sym (n .same .generation)))
-      go false p true q = absurd (eqb-false (c .generation .0) g p (sym (n .same .generation) ∙ sym (eqb-true g (o .generation) q)))
+      go false p false q = emptied-near m g c a o n
+      go true p false q = absurd (eqb-false (g .0) (o .generation) q (sym (eqb-true (c .generation .0) (g .0) p) ∙ sym (n .same .generation)))
+      go false p true q = absurd (eqb-false (c .generation .0) (g .0) p (sym (n .same .generation) ∙ sym (eqb-true (g .0) (o .generation) q)))
 
-module _ (std : Std) (iter : Iter ℕ) {R : Type 0} (f : List ℕ → R) (due : List ℕ → List ℕ) (g m : ℕ) (few : suc m < 2 ^ 64) (table : Sublist ℕ) (subject : List ℕ) where
-  abbrev list : List ℕ
-  list = due subject
+  right-on : mixed ≡ false → Keeps (Dues due) e a
+  right-on apart = adopted-keeps (Dues due) g c a (s .fit) (s .right apart)
 
-  -- what a resolve of ours leaves, by what it hands back, beside what one of theirs leaves
-  abbrev pub Leaves : ResolveCache → Area → original.ResolveCache ℕ → Handed → Resolved → Type 0
-  Leaves c a o (turnedBack r) x = (x .cache ≡ c) × (x .area ≡ a)
-  Leaves c a o (gives l) x =
-      (y : R × original.ResolveCache ℕ) → looked-up std iter f (guarded g o) table subject (get ((guarded g o) .entries) subject) ≡ Ok y → qualifies subject l ≡ true
-      → Near (suc m) (x .cache) (x .area) (y .1)
+  module _ (subject : List ℕ) where
+    abbrev list : List ℕ
+    list = due subject
 
-  kept-short : (l : List ℕ) → qualifies subject l ≡ true → (length subject ≤ 256) × (length l ≤ 16)
-  kept-short l q = go (ltb 256 (length subject)) (ltb 16 (length l)) refl refl q
-    where
-      go : (b d : Bool) → ltb 256 (length subject) ≡ b → ltb 16 (length l) ≡ d → not (or b d) ≡ true → (length subject ≤ 256) × (length l ≤ 16)
-      go true d p r q = let z : _≡_ {A = ℕ} 0 1 = cc in absurd (omega arith)
-      go false true p r q = let z : _≡_ {A = ℕ} 0 1 = cc in absurd (omega arith)
-      go false false p r q = (ltb-false 256 (length subject) p, ltb-false 16 (length l) r)
+    -- the subject is found on both sides with one list, or on neither
+    abbrev Both : Option ℕ → Option (CacheEntry ℕ) → Type 0
+    Both (some i) (some x) = (listed a list (some i) ≡ listOf list (some x)) × ((i < e .used) × (row a i .0 ≡ subject))
+    Both (some i) none = ⊥
+    Both none (some x) = ⊥
+    Both none none = (j : ℕ) → j < e .used → row a j .0 ≡ subject → ⊥
 
-  module _ (c : ResolveCache) (a : Area) (o : original.ResolveCache ℕ) (out : List ℕ) (fc : Faithful due g c a) (nc : Near m c a o) (walks : match-into std table subject [] ≡ Ok list) where
-    abbrev e : ResolveCache
-    e = adopt (record { 0 = g }) c
-
-    abbrev on : original.ResolveCache ℕ
-    on = guarded g o
-
-    fe : Faithful due g e a
-    fe = adopted-faithful due g m c a o fc nc
-
-    ne : Near m e a on
-    ne = adopted-near due g m c a o fc nc
-
-    -- the subject is found on both sides, or on neither
-    their-hit : (i : ℕ) → findFrom (a .heads) (a .keys) subject 0 (e .used) ≡ some i → (r : Option (CacheEntry ℕ)) → get (on .entries) subject ≡ r
-        → (y : R × original.ResolveCache ℕ) → looked-up std iter f on table subject r ≡ Ok y → y .1 ≡ original.hit on subject
-    their-hit i q (some x) p y s = ap (λ (z : R × original.ResolveCache ℕ). z .1) (let t : (f (x .targets), original.hit on subject) ≡ y = cc in sym t)
-    their-hit i q none p y s =
-        let w = find-sound (a .heads) (a .keys) subject 0 (e .used) i q in
-        absurd (each-at (λ x. x .0 ≡ subject → ⊥) (on .entries) (row a i) (get-none (on .entries) subject p) (ne .same .kept i (omega (arith, w .below))) (w .key))
-
-    their-miss : findFrom (a .heads) (a .keys) subject 0 (e .used) ≡ none → (r : Option (CacheEntry ℕ)) → get (on .entries) subject ≡ r
-        → (y : R × original.ResolveCache ℕ) → looked-up std iter f on table subject r ≡ Ok y → y .1 ≡ original.miss iter on subject list
-    their-miss q (some x) p y s =
-        let w = ne .same .only (subject, x) (get-some (on .entries) subject x p) in
-        absurd (find-none (a .heads) (a .keys) subject 0 (e .used) q (w .0) (omega arith) (omega (arith, w .1)) (ap (λ (z : List ℕ × CacheEntry ℕ). z .0) (sym (w .2))))
-    their-miss q none p y s =
-        let u : (Ok list >>= (λ targets. Ok (f targets, original.miss iter on subject targets))) ≡ Ok y = ap (λ r. r >>= (λ targets. Ok (f targets, original.miss iter on subject targets))) (sym walks) ∙ s in
-        ap (λ (z : R × original.ResolveCache ℕ). z .1) (let t : (f list, original.miss iter on subject list) ≡ y = cc in sym t)
-
-    hit-leaves : (i : ℕ) → findFrom (a .heads) (a .keys) subject 0 (e .used) ≡ some i
-        → Leaves c a o (handed ((hitAt c a subject out e i) .says) ((hitAt c a subject out e i) .area .kept) ((hitAt c a subject out e i) .out)) (hitAt c a subject out e i)
-    hit-leaves i q = go (ltb (length out) (targetCount (a .heads) i))
+    both : spoiled ≡ false → Both (slotOf e a subject) (get (on .entries) subject)
+    both clean = go (slotOf e a subject) refl (get (on .entries) subject) refl
       where
-        left : Bool → Resolved
-        left b =
-            pick b (unchanged c a subject out (answer 21 (targetCount (a .heads) i ∷ [])))
-            (record { says = inKept (16 * i) (targetCount (a .heads) i); cache = hit e; area = touch a i (ticked e .0); out = out })
+        n : Near m e a on
+        n = near-on clean
 
-        go : (b : Bool) → Leaves c a o (handed ((left b) .says) ((left b) .area .kept) ((left b) .out)) (left b)
-        go true = (refl, refl)
-        go false = λ y s k.
-            let w = find-sound (a .heads) (a .keys) subject 0 (e .used) i q in
-            subst (Near (suc m) (hit e) (touch a i (ticked e .0))) (sym (their-hit i q (get (on .entries) subject) refl y s))
-            (hit-near due g m e a on fe ne few subject i (omega (arith, w .below)) (w .key))
+        go : (r : Option ℕ) → slotOf e a subject ≡ r → (t : Option (CacheEntry ℕ)) → get (on .entries) subject ≡ t → Both r t
+        go (some i) q (some x) p =
+            let f = find-sound (a .heads) (a .keys) subject 0 (e .used) i q in
+            let w = n .same .only (subject, x) (get-some (on .entries) subject x p) in
+            let below : i < e .used = omega (arith, f .below) in
+            let same : w .0 ≡ i = n .apart (w .0) i (w .1) below (ap (λ (z : List ℕ × CacheEntry ℕ). z .0) (sym (w .2)) ∙ sym (f .key)) in
+            (ap (λ j. row a j .1 .targets) (sym same) ∙ ap (λ (z : List ℕ × CacheEntry ℕ). z .1 .targets) (sym (w .2)), (below, f .key))
+        go (some i) q none p =
+            let f = find-sound (a .heads) (a .keys) subject 0 (e .used) i q in
+            each-at (λ x. x .0 ≡ subject → ⊥) (on .entries) (row a i) (get-none (on .entries) subject p) (n .same .kept i (omega (arith, f .below))) (f .key)
+        go none q (some x) p =
+            let w = n .same .only (subject, x) (get-some (on .entries) subject x p) in
+            find-none (a .heads) (a .keys) subject 0 (e .used) q (w .0) (omega arith) (omega (arith, w .1)) (ap (λ (z : List ℕ × CacheEntry ℕ). z .0) (sym (w .2)))
+        go none q none p = λ j h r. find-none (a .heads) (a .keys) subject 0 (e .used) q j (omega arith) (omega (arith, h)) r
 
-    miss-leaves : findFrom (a .heads) (a .keys) subject 0 (e .used) ≡ none → (peak : ℕ)
-        → Leaves c a o (handed ((miss c a subject out e (found list peak)) .says) ((miss c a subject out e (found list peak)) .area .kept) ((miss c a subject out e (found list peak)) .out))
-        (miss c a subject out e (found list peak))
-    miss-leaves q peak = go (ltb (length out) (length list)) (qualifies subject list) refl
+    right-list : mixed ≡ false → listed a list (slotOf e a subject) ≡ list
+    right-list apart = go (slotOf e a subject) refl
       where
-        left : Bool → Bool → Resolved
-        left b d =
-            pick b (unchanged c a subject out (answer 21 (length list ∷ [])))
-            (pick d
-            (record { says = inOut (length list); cache = grown e; area = keep a (place e a) subject list (ticked e .0); out = over list out })
-            (record { says = inOut (length list); cache = walked e; area = a; out = over list out }))
+        go : (r : Option ℕ) → slotOf e a subject ≡ r → listed a list r ≡ list
+        go (some i) q = let f = find-sound (a .heads) (a .keys) subject 0 (e .used) i q in right-on apart .each i (omega (arith, f .below)) ∙ ap due (f .key)
+        go none q = refl
 
-        whole : take (length list) (over list out) ≡ list
-        whole = take-append-seam list (drop (length list) out)
-
-        go : (b d : Bool) → qualifies subject list ≡ d → Leaves c a o (handed ((left b d) .says) ((left b d) .area .kept) ((left b d) .out)) (left b d)
-        go true d p = (refl, refl)
-        go false true p = λ y s k.
-            let w = kept-short list p in
-            subst (Near (suc m) (grown e) (keep a (place e a) subject list (ticked e .0))) (sym (their-miss q (get (on .entries) subject) refl y s))
-            (miss-near due g m e a on fe ne few subject list (w .0) (w .1)
-            (λ j h r. find-none (a .heads) (a .keys) subject 0 (e .used) q j (omega arith) (omega (arith, h)) r) iter)
-        go false false p = λ y s k.
-            let u : qualifies subject list ≡ true = ap (qualifies subject) (sym whole) ∙ k in
-            let z : _≡_ {A = ℕ} 0 1 = cc in absurd (omega arith)
-
-    work-leaves : (peak : ℕ) → Leaves c a o
-        (handed ((work c a subject out e (found list peak)) .says) ((work c a subject out e (found list peak)) .area .kept) ((work c a subject out e (found list peak)) .out))
-        (work c a subject out e (found list peak))
-    work-leaves peak = go (findFrom (a .heads) (a .keys) subject 0 (e .used)) refl
+    pub same-list : not (and spoiled mixed) ≡ true → listed a list (slotOf e a subject) ≡ listOf list (get (on .entries) subject)
+    same-list q = go spoiled refl mixed refl q
       where
-        go : (r : Option ℕ) → findFrom (a .heads) (a .keys) subject 0 (e .used) ≡ r
-            → Leaves c a o
-            (handed ((workBy c a subject out r e (found list peak)) .says) ((workBy c a subject out r e (found list peak)) .area .kept) ((workBy c a subject out r e (found list peak)) .out))
-            (workBy c a subject out r e (found list peak))
-        go (some i) q = hit-leaves i q
-        go none q = miss-leaves q peak
+        near-list : (r : Option ℕ) (t : Option (CacheEntry ℕ)) → Both r t → listed a list r ≡ listOf list t
+        near-list (some i) (some x) k = k .0
+        near-list (some i) none k = absurd k
+        near-list none (some x) k = absurd k
+        near-list none none k = refl
 
-  -- the whole resolve, through a snapshot on which the table stands
-  pub resolve-leaves : (c : ResolveCache) (a : Area) (o : original.ResolveCache ℕ) (s : Snapshot) (area out : List ℕ) → Faithful due g c a → Near m c a o → s .generation .0 ≡ g → standsIn s area ≡ true
-      → ((values : List ℕ) → grammar false subject ≡ answer 0 values → (match-into std table subject [] ≡ Ok list) × ((peak : ℕ) × (walkOf s area subject ≡ found list peak)))
-      → Leaves c a o (handed ((resolve c a s area subject out) .says) ((resolve c a s area subject out) .area .kept) ((resolve c a s area subject out) .out)) (resolve c a s area subject out)
-  unfolding resolve
-  resolve-leaves c a o s area out fc nc p q accepts =
-      subst (λ h. Leaves c a o
-      (handed ((resolveBy c a subject out h (standsIn s area) (walkOf s area subject)) .says)
-      ((resolveBy c a subject out h (standsIn s area) (walkOf s area subject)) .area .kept) ((resolveBy c a subject out h (standsIn s area) (walkOf s area subject)) .out))
-      (resolveBy c a subject out h (standsIn s area) (walkOf s area subject)))
-      (ap (λ (k : ℕ). record { 0 = k }) (sym p)) (rw q (go (grammar false subject) refl))
-    where
-      good : bad c a ≡ false
-      good =
-          rw (ne-eqb (c .capacity) 0 (λ z. omega (arith, fc .any)), le-ltb (c .capacity) (c .used) (fc .fits))
-          (small-good (a .heads) 0 (c .used) (λ j h k. fc .small j (omega (arith, k))))
+        go : (b : Bool) → spoiled ≡ b → (d : Bool) → mixed ≡ d → not (and b d) ≡ true → listed a list (slotOf e a subject) ≡ listOf list (get (on .entries) subject)
+        go false p d r q = near-list (slotOf e a subject) (get (on .entries) subject) (both p)
+        go true p false r q = right-list r ∙ sym (trusty-list due (g .0) stood o (s .theirs r) subject)
+        go true p true r q = let z : _≡_ {A = ℕ} 0 1 = cc in absurd (omega arith)
 
-      left : Answer → Resolved
-      left r =
-          ifAccepted c a subject out r
-          (pick (short (c .capacity) a) (unchanged c a subject out (answer 17 []))
-          (pick (bad c a) (unchanged c a subject out (answer 18 []))
-          (work c a subject out (adopt (record { 0 = g }) c) (walkOf s area subject))))
+    -- what a resolve leaves on both sides
+    module _ (iter : Iter ℕ) (few : suc m < 2 ^ 64) where
+      abbrev left : Kept
+      left = leftBy e a subject list (slotOf e a subject)
 
-      go : (r : Answer) → grammar false subject ≡ r → Leaves c a o (handed ((left r) .says) ((left r) .area .kept) ((left r) .out)) (left r)
-      go (answer (suc k) values) e = (refl, refl)
-      go (answer zero values) e =
-          let x = accepts values e in
-          rw (wide-short (c .capacity) a (fc .wide), good, x .1 .1) (work-leaves c a o out fc nc (x .0) (x .1 .0))
+      left-near : spoiled ≡ false → qualifies subject (listed a list (slotOf e a subject)) ≡ true
+          → Near (suc m) (left .cache) (left .area) (leftOf iter on subject list (get (on .entries) subject))
+      left-near clean = go (slotOf e a subject) (get (on .entries) subject) (both clean)
+        where
+          missed : (b d : Bool) → ltb 256 (length subject) ≡ b → ltb 16 (length list) ≡ d → ((j : ℕ) → j < e .used → row a j .0 ≡ subject → ⊥) → not (or b d) ≡ true
+              → Near (suc m) ((let x : Kept = pick (not (or b d)) (record { cache = grown e; area = keep a (place e a) subject list (ticked e .0) }) (record { cache = walked e; area = a }) in x) .cache)
+              ((let x : Kept = pick (not (or b d)) (record { cache = grown e; area = keep a (place e a) subject list (ticked e .0) }) (record { cache = walked e; area = a }) in x) .area)
+              (miss iter on subject list)
+          missed true d p r k q = let z : _≡_ {A = ℕ} 0 1 = cc in absurd (omega arith)
+          missed false true p r k q = let z : _≡_ {A = ℕ} 0 1 = cc in absurd (omega arith)
+          missed false false p r k q =
+              miss-near m e a on fit-on (near-on clean) few subject list (ltb-false 256 (length subject) p) (ltb-false 16 (length list) r) k iter
+
+          go : (r : Option ℕ) (t : Option (CacheEntry ℕ)) → Both r t → qualifies subject (listed a list r) ≡ true
+              → Near (suc m) ((leftBy e a subject list r) .cache) ((leftBy e a subject list r) .area) (leftOf iter on subject list t)
+          go (some i) (some x) k q = hit-near m e a on fit-on (near-on clean) few subject i (k .1 .0) (k .1 .1)
+          go (some i) none k q = absurd k
+          go none (some x) k q = absurd k
+          go none none k q = missed (ltb 256 (length subject)) (ltb 16 (length list)) refl refl k q
+
+      -- the standing table's generation is among those that stood
+      pub left-sound : among (g .0) stood ≡ true → (then′ : Bool) → (then′ ≡ false → (spoiled ≡ false) × (qualifies subject (listed a list (slotOf e a subject)) ≡ true))
+          → Sound then′ mixed stood due g (suc m) left (leftOf iter on subject list (get (on .entries) subject))
+      left-sound stands then′ less = record {
+        fit = left-keeps Anything e a fit-on subject list tt;
+        near = λ q. left-near (less q .0) (less q .1);
+        past = λ q r.
+            let same : among (left .cache .generation .0) stood ≡ true =
+            ap (λ (h : Generation). among (h .0) stood) (left-generation e a subject list (slotOf e a subject)) ∙ ap (λ n. among n stood) (adopted-generation g c) ∙ stands in
+            let z : _≡_ {A = ℕ} 0 1 = cc in absurd (omega arith);
+        right = λ q r. left-keeps (Dues due) e a (right-on q) subject list refl;
+        theirs = λ q. left-trusty due (g .0) stood o (s .theirs q) subject iter stands;
+      }

@@ -1,7 +1,7 @@
 -- Calls on the original's snapshot and caches beside calls on ours, and when their answers are the same.
 use Prim.Native.Nat.{ℕ, _≤_}
 use mathlib.Core.Path.{_≡_}
-use mathlib.Core.Bool.{Bool, false}
+use mathlib.Core.Bool.{Bool, true, false}
 use mathlib.Core.List.{List, [], _∷_}
 use lib.Dec.{eqb, leb}
 use lib.ListN.{length, getD}
@@ -84,9 +84,9 @@ told more (matched list g) = ours.matched list (verdictOf (single-home list)) (g
 told more (resolved list) = ours.resolved list (verdictOf (single-home list))
 told more (home verdict) = ours.home (verdictOf verdict) more
 
--- "added" refusals: 1, 2, 10 to 12, 14, 15 and 17 to 21
+-- "added" refusals of these calls: 1, 2, 20 and 21; 17, 18 and 19 are never met
 abbrev pub addedNumber : ℕ → Bool
-addedNumber n = or (and (leb 1 n) (leb n 2)) (or (and (leb 10 n) (leb n 12)) (or (and (leb 14 n) (leb n 15)) (leb 17 n)))
+addedNumber n = or (and (leb 1 n) (leb n 2)) (and (leb 20 n) (leb n 21))
 
 abbrev pub added : ours.Reply → Bool
 added (ours.refused (answer n values)) = addedNumber n
@@ -96,9 +96,18 @@ added (ours.matched list verdict peak g) = false
 added (ours.resolved list verdict) = false
 added (ours.home verdict values) = false
 
+-- a refusal is compared always
+abbrev pub refusing : ours.Reply → Bool
+refusing (ours.refused a) = true
+refusing (ours.storing g) = false
+refusing ours.cleared = false
+refusing (ours.matched list verdict peak g) = false
+refusing (ours.resolved list verdict) = false
+refusing (ours.home verdict values) = false
+
 -- their call does not panic, our answer is theirs if `compared` says that it is to be, and `rest` holds of what is there then
 abbrev pub Answered : Bool → ours.Reply → Outcome (Told × World) → (World → Type 0) → Type 0
-Answered compared r given rest = (x : Told × World) × (given ≡ Ok x) × (pick compared ((more : List ℕ) × (r ≡ told more (x .0))) (Unit {0})) × rest (x .1)
+Answered compared r given rest = (x : Told × World) × (given ≡ Ok x) × (pick (or (refusing r) compared) ((more : List ℕ) × (r ≡ told more (x .0))) (Unit {0})) × rest (x .1)
 
 -- "a call refused by an added number is not made on the Rust's side"; any other is
 abbrev pub Compared : Bool → ours.Reply → World → Outcome (Told × World) → (World → Type 0) → Type 0

@@ -2,5 +2,5 @@
 pub mod Original
 -- Calls on its snapshot and its caches, and what it is that they answer as ours do.
 pub mod Calls
--- A cache of the original's beside one of ours.
+-- A cache of the original's beside one of ours, and what is compared of a list of calls.
 pub mod Caches
