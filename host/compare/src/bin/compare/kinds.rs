@@ -1,9 +1,9 @@
 //! Random lists of several kinds, and subjects for them.
 use crate::tables;
 use crate::tally::Tally;
-use host::lists::{self, Line, CLASH};
-use host::random::Random;
-use host::table::MAX_ENTRIES;
+use compare::lists::{self, Line, CLASH};
+use compare::random::Random;
+use compare::table::MAX_ENTRIES;
 
 const WORDS: [&str; 8] = ["a", "b", "c", "ä", " ", "轨道", "points", "set"];
 

@@ -2,12 +2,13 @@
 //!
 //! bench [ROUNDS]
 //! Both sides get bytes and check that they are UTF-8; under `known text` the original gets what is known to be UTF-8.
-use host::lists::{self, Line};
-use host::random::Random;
-use host::table::{List, Table};
-use host::{ffi, original};
+use compare::lists::{self, Line};
+use compare::original;
+use compare::random::Random;
+use compare::table::{List, Table};
 use oracle::subject::{Subject, SubjectPattern};
 use oracle::sublist::SublistBuilder;
+use router::raw;
 use std::hint::black_box;
 use std::time::Instant;
 
@@ -159,7 +160,7 @@ fn main() {
         CALLS,
         &SUBJECTS,
         &[
-            &|text| ffi::parse_literal(text.as_bytes()).first,
+            &|text| raw::parse_literal(text.as_bytes()).first,
             &|text| original::parse_literal(text.as_bytes()).first,
             &|text| known_subject(text),
         ],
@@ -170,7 +171,7 @@ fn main() {
         CALLS,
         &PATTERNS,
         &[
-            &|text| ffi::parse(text.as_bytes()).first,
+            &|text| raw::parse(text.as_bytes()).first,
             &|text| original::parse(text.as_bytes()).first,
             &|text| known_pattern(text),
         ],
@@ -182,7 +183,7 @@ fn main() {
         CALLS,
         &pairs,
         &[
-            &|(pattern, subject)| ffi::matches(pattern.as_bytes(), subject.as_bytes()).first,
+            &|(pattern, subject)| raw::matches(pattern.as_bytes(), subject.as_bytes()).first,
             &|(pattern, subject)| original::matches(pattern.as_bytes(), subject.as_bytes()).first,
             &|(pattern, subject)| known_match(pattern, subject),
         ],
@@ -197,7 +198,7 @@ fn main() {
         rounds,
         CALLS,
         &tokens,
-        &[&|token| ffi::token_hash(token), &|token| {
+        &[&|token| raw::token_hash(token), &|token| {
             original::token_hash(token)
         }],
     );

@@ -1,7 +1,7 @@
 //! Random texts around every limit, as they are and damaged.
 use crate::tally::Tally;
-use host::original::MAX_TEXT;
-use host::random::Random;
+use compare::original::MAX_TEXT;
+use compare::random::Random;
 
 const WORDS: [&str; 12] = [
     "yard", "north", "points", "17", "set", "a", "b", " ", "ß", "Gleis-Ä", "轨道", "🚂",

@@ -2,12 +2,12 @@
 use crate::kinds::run_of_ten;
 use crate::tables::{self, answer, fresh_words, packed, untouched};
 use crate::tally::Tally;
-use host::ffi;
-use host::lists::{self, Line};
-use host::model::Tree;
-use host::original;
-use host::random::Random;
-use host::table::{ENTRY_NUMBERS, MAX_ENTRIES, MAX_FRONTIER, NODE_WORDS};
+use compare::lists::{self, Line};
+use compare::model::Tree;
+use compare::original;
+use compare::random::Random;
+use compare::table::{ENTRY_NUMBERS, MAX_ENTRIES, MAX_FRONTIER, NODE_WORDS};
+use router::raw;
 
 /// Inserts until the list is full and one further, with so many places and one number too many or too few.
 fn fill(tally: &mut Tally, places: usize, odd: usize) {
@@ -72,7 +72,7 @@ fn build_says(
     nodes: usize,
     targets: usize,
     generation: u64,
-) -> host::ffi::Answer {
+) -> raw::Answer {
     let entries: Vec<&[usize]> = words.chunks_exact(ENTRY_NUMBERS).collect();
     if entries.len() > MAX_ENTRIES {
         return answer(10, &[]);
@@ -102,7 +102,7 @@ fn build_says(
     if tree.worst_case() > MAX_FRONTIER {
         return answer(16, &[tree.worst_case(), MAX_FRONTIER]);
     }
-    host::ffi::Answer {
+    raw::Answer {
         third: generation,
         ..answer(0, &[tree.node_count(), tree.worst_case()])
     }
@@ -120,7 +120,7 @@ fn build_any(
     let mut node_words = fresh_words(nodes);
     let mut target_words = fresh_words(targets);
     let due = build_says(words, store, nodes / NODE_WORDS, targets, generation);
-    let ours = ffi::build(words, store, &mut node_words, &mut target_words, generation);
+    let ours = raw::build(words, store, &mut node_words, &mut target_words, generation);
     let inputs = || {
         let text = store.escape_ascii();
         format!("  numbers {words:?}\n  store \"{text}\"\n  {nodes} node words, {targets} target words\n")

@@ -1,7 +1,7 @@
 //! Says in words what the router makes of texts: which are accepted, why the others are refused, and which patterns match which subject.
 //!
 //! explain FILE
-use host::ffi::{self, Answer};
+use router::raw::{self, Answer};
 use std::process::ExitCode;
 
 /// The texts of a file, as patterns and as subjects.
@@ -106,7 +106,7 @@ fn verdict(text: &[u8], answer: &Answer) {
 /// The patterns that match a subject.
 fn matching<'a>(patterns: &'a [Vec<u8>], subject: &[u8]) -> Vec<&'a [u8]> {
     let matches = |pattern: &&[u8]| {
-        let answer = ffi::matches(pattern, subject);
+        let answer = raw::matches(pattern, subject);
         answer.accepted() && answer.first == 1
     };
     patterns.iter().map(Vec::as_slice).filter(matches).collect()
@@ -116,15 +116,15 @@ fn explain(texts: &Texts) {
     println!("A part is what stands between two dots. Parts and bytes are counted from 1.");
     println!("\nPatterns");
     for pattern in &texts.patterns {
-        verdict(pattern, &ffi::parse(pattern));
+        verdict(pattern, &raw::parse(pattern));
     }
     println!("\nSubjects");
     for subject in &texts.subjects {
-        verdict(subject, &ffi::parse_literal(subject));
+        verdict(subject, &raw::parse_literal(subject));
     }
     println!("\nWhich patterns match");
     for subject in &texts.subjects {
-        if !ffi::parse_literal(subject).accepted() {
+        if !raw::parse_literal(subject).accepted() {
             continue;
         }
         let found: Vec<String> = matching(&texts.patterns, subject)

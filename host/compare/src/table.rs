@@ -1,5 +1,5 @@
 //! A list of patterns, and the table built from it, in memory that Rust owns and lends to the calls.
-use crate::ffi::{self, Answer};
+use router::raw::{self, Answer};
 
 /// The numbers that an entry takes.
 pub const ENTRY_NUMBERS: usize = 3;
@@ -34,7 +34,7 @@ impl List {
 
     /// A pattern joins the list, unless it is refused.
     pub fn insert(&mut self, pattern: &[u8], target: u32) -> Answer {
-        let answer = ffi::insert(
+        let answer = raw::insert(
             self.entries,
             self.used,
             &mut self.words,
@@ -84,7 +84,7 @@ impl Table {
     pub fn build(list: &List, generation: u64) -> Result<Table, Answer> {
         let mut node_words = vec![0; list.most_nodes() * NODE_WORDS];
         let mut target_words = vec![0; list.entries()];
-        let answer = ffi::build(
+        let answer = raw::build(
             list.words(),
             list.store(),
             &mut node_words,
@@ -116,7 +116,7 @@ impl Table {
 
     /// The targets that a subject matches, written to the first places of `out`: their number and the peak, or the refusal.
     pub fn match_subject(&self, subject: &[u8], out: &mut [u32]) -> Answer {
-        ffi::match_table(
+        raw::match_table(
             self.nodes,
             self.target_words.len(),
             &self.node_words,

@@ -11,7 +11,7 @@ mod tables;
 mod tally;
 mod texts;
 
-use host::random::Random;
+use compare::random::Random;
 use std::process::ExitCode;
 use std::time::{Duration, Instant};
 use tally::Tally;

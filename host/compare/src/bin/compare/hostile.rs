@@ -3,12 +3,12 @@
 use crate::kinds::run_of_ten;
 use crate::tables::{self, answer, bytes_of, fresh_words, untouched, MOST_BYTES};
 use crate::tally::Tally;
-use host::area::Lent;
-use host::ffi::{self, Answer};
-use host::lists::{self, Line};
-use host::original;
-use host::random::Random;
-use host::table::NODE_WORDS;
+use compare::area::Lent;
+use compare::lists::{self, Line};
+use compare::original;
+use compare::random::Random;
+use compare::table::NODE_WORDS;
+use router::raw::{self, Answer};
 
 const SUBJECTS: [&str; 9] = [
     "a",
@@ -38,7 +38,7 @@ fn match_says(table: &Lent, subject: &[u8], places: usize) -> (Answer, Vec<u32>)
 fn compare_words(tally: &mut Tally, table: &Lent, subject: &[u8], places: usize) {
     let (due, list) = match_says(table, subject, places);
     let mut out = fresh_words(places);
-    let ours = ffi::match_table(
+    let ours = raw::match_table(
         table.nodes,
         table.targets,
         &table.node_words,
@@ -80,7 +80,7 @@ fn compare_bytes(
     };
     let mut out_due = out.clone();
     out_due[..4 * list.len()].copy_from_slice(&bytes_of(&list));
-    let ours = ffi::match_bytes(
+    let ours = raw::match_bytes(
         table.nodes,
         table.targets,
         &node_bytes,

@@ -1,9 +1,9 @@
 //! The original's answers, in the form in which the C library gives its own.
 //! Refusals 1 and 2 are not the original's: they are decided here, by the standard library, and the original is then not called.
-use crate::ffi::Answer;
 use crate::lists::Line;
 use oracle::subject::{Subject, SubjectError, SubjectPattern};
 use oracle::sublist::{Sublist, SublistBuilder, SublistError};
+use router::raw::Answer;
 use std::str::{from_utf8, Utf8Error};
 use xxhash_rust::xxh3::xxh3_64;
 

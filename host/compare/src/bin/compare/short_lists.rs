@@ -1,8 +1,8 @@
 //! Every short list of short patterns, with every short subject.
 use crate::tables;
 use crate::tally::Tally;
-use host::lists::Line;
-use host::random::Random;
+use compare::lists::Line;
+use compare::random::Random;
 
 /// Each run of up to `most` of the tokens, the empty one first.
 fn runs<'a>(tokens: &[&'a str], most: usize) -> Vec<Vec<&'a str>> {

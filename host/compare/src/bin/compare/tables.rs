@@ -1,13 +1,13 @@
 //! One list of lines on all sides: insert, build and match of the router, the original, and the model of worst cases and peaks.
 use crate::tally::Tally;
-use host::area::Lent;
-use host::ffi::{self, Answer};
-use host::lists::Line;
-use host::model::{self, Tree};
-use host::original;
-use host::random::Random;
-use host::table::{ENTRY_NUMBERS, MAX_ENTRIES, MAX_FRONTIER, NODE_WORDS};
+use compare::area::Lent;
+use compare::lists::Line;
+use compare::model::{self, Tree};
+use compare::original;
+use compare::random::Random;
+use compare::table::{ENTRY_NUMBERS, MAX_ENTRIES, MAX_FRONTIER, NODE_WORDS};
 use oracle::sublist::Sublist;
+use router::raw::{self, Answer};
 
 /// The most bytes that the areas of a match on bytes may have together.
 pub const MOST_BYTES: usize = 65536;
@@ -96,7 +96,7 @@ pub fn insert(
         words_due[entries * ENTRY_NUMBERS..][..ENTRY_NUMBERS].copy_from_slice(&numbers);
         store_due[used..][..pattern.len()].copy_from_slice(pattern);
     }
-    let ours = ffi::insert(entries, used, words, store, pattern, *target);
+    let ours = raw::insert(entries, used, words, store, pattern, *target);
     let inputs = || {
         let (places, bytes) = (words.len(), store.len());
         format!("  {entries} entries, {used} bytes in use, {places} numbers and {bytes} bytes lent, {line:?}\n")
@@ -134,7 +134,7 @@ pub fn build<'a>(tally: &mut Tally, random: &mut Random, lines: &'a [Line]) -> O
     let tree = Tree::new(lines);
     let (words, store) = packed(lines);
     let (mut node_words, mut target_words) = areas(tree.node_count(), lines.len(), random);
-    let ours = ffi::build(
+    let ours = raw::build(
         &words,
         &store,
         &mut node_words,
@@ -209,7 +209,7 @@ impl Sides<'_> {
     ) {
         let table = &self.table;
         let mut out = fresh_words(length);
-        let ours = ffi::match_table(
+        let ours = raw::match_table(
             table.nodes,
             table.targets,
             &table.node_words,
@@ -254,7 +254,7 @@ impl Sides<'_> {
         };
         let written = if due.accepted() { list } else { &[] };
         let out_due = list_in_bytes(written, &out);
-        let ours = ffi::match_bytes(
+        let ours = raw::match_bytes(
             table.nodes,
             table.targets,
             node_bytes,

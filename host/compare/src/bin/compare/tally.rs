@@ -1,7 +1,7 @@
 //! The comparisons themselves, and their count.
-use host::ffi::{self, Answer};
-use host::lists::Line;
-use host::original;
+use compare::lists::Line;
+use compare::original;
+use router::raw::{self, Answer};
 use std::collections::BTreeMap;
 use std::fmt::Debug;
 use std::process::{exit, ExitCode};
@@ -87,17 +87,17 @@ impl Tally {
     /// A text as a subject and as a pattern, its depth, and whether it ends in `>`.
     pub fn text(&mut self, text: &[u8]) {
         let inputs = [text];
-        let ours = ffi::parse_literal(text);
+        let ours = raw::parse_literal(text);
         self.compare_answers(
             "parse_literal",
             &inputs,
             ours,
             original::parse_literal(text),
         );
-        self.compare_answers("parse", &inputs, ffi::parse(text), original::parse(text));
+        self.compare_answers("parse", &inputs, raw::parse(text), original::parse(text));
         let (depth, tail) = original::depth_and_tail(text);
-        self.compare("depth", &inputs, ffi::depth(text), depth);
-        let ours = ffi::has_tail_wildcard(text);
+        self.compare("depth", &inputs, raw::depth(text), depth);
+        let ours = raw::has_tail_wildcard(text);
         self.compare("has_tail_wildcard", &inputs, ours, tail);
     }
 
@@ -105,7 +105,7 @@ impl Tally {
     pub fn matching(&mut self, pattern: &[u8], subject: &[u8]) {
         let inputs = [pattern, subject];
         let theirs = original::matches(pattern, subject);
-        self.compare_answers("matches", &inputs, ffi::matches(pattern, subject), theirs);
+        self.compare_answers("matches", &inputs, raw::matches(pattern, subject), theirs);
         if theirs.accepted() {
             self.verdicts[theirs.first as usize] += 1;
         }
@@ -114,7 +114,7 @@ impl Tally {
     /// The hash of a token, as the original's table computes it.
     pub fn hash(&mut self, token: &[u8]) {
         let theirs = original::token_hash(token);
-        self.compare("token_hash", &[token], ffi::token_hash(token), theirs);
+        self.compare("token_hash", &[token], raw::token_hash(token), theirs);
     }
 
     /// Says how many comparisons were made since the last report.

@@ -8,7 +8,7 @@ fn main() {
     println!("cargo:rerun-if-env-changed=ROUTER_LIB_DIR");
     let folder = match env::var_os("ROUTER_LIB_DIR") {
         Some(folder) => lent(folder.into()),
-        None => built(&path("CARGO_MANIFEST_DIR").join("..")),
+        None => built(&path("CARGO_MANIFEST_DIR").join("../..")),
     };
     println!("cargo:rustc-link-search=native={}", folder.display());
     println!("cargo:rustc-link-lib=static=router_c");

@@ -1,0 +1,4 @@
+//! The yard subject router for Rust programs: safe calls over the proved C library.
+#![no_std]
+
+pub mod raw;
