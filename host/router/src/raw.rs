@@ -1,4 +1,9 @@
-//! The calls of the router's C library (`crates/router_c`), each behind a safe function. Every call takes any numbers, words and bytes.
+//! The calls of the C library (`crates/router_c`), each behind a safe function, with answers as it gives them: numbers.
+//!
+//! Every call takes any numbers, words and bytes: it ends with its result or a refusal and never reads or writes outside the slices that it is lent.
+//! So the states below may be made by hand, with any numbers in them; a state that does not fit its area is refused or gives a defined answer.
+//! Programs use the rest of this library, which keeps a state with its area and names the answers; this layer is for comparisons and for other bindings.
+mod c;
 
 /// What a call answers: 0, or the number of a refusal, and then the values that belong to it, 0 where there is none.
 #[repr(C)]
@@ -16,69 +21,87 @@ impl Answer {
     }
 }
 
-/// The declarations. A slice is a pointer and a length.
-mod c {
-    use super::Answer;
+/// A snapshot's state: the counts and the generation of the standing table, and the generation that the next store stamps.
+#[repr(C)]
+#[derive(Clone, Copy, Debug, Default, PartialEq, Eq)]
+pub struct SnapshotState {
+    pub nodes: usize,
+    pub targets: usize,
+    pub generation: u64,
+    pub next: u64,
+}
 
-    extern "C" {
-        pub fn router_parse_literal(text: *const u8, length: usize) -> Answer;
-        pub fn router_parse(text: *const u8, length: usize) -> Answer;
-        pub fn router_matches(
-            pattern: *const u8,
-            pattern_length: usize,
-            subject: *const u8,
-            subject_length: usize,
-        ) -> Answer;
-        pub fn router_token_hash(token: *const u8, length: usize) -> u64;
-        pub fn router_depth(text: *const u8, length: usize) -> u64;
-        pub fn router_has_tail_wildcard(text: *const u8, length: usize) -> u64;
-        pub fn router_insert(
-            entries: usize,
-            used: usize,
-            words: *mut usize,
-            words_length: usize,
-            store: *mut u8,
-            store_length: usize,
-            pattern: *const u8,
-            pattern_length: usize,
-            target: u32,
-        ) -> Answer;
-        pub fn router_build(
-            words: *const usize,
-            words_length: usize,
-            store: *const u8,
-            store_length: usize,
-            nodes: *mut u32,
-            nodes_length: usize,
-            targets: *mut u32,
-            targets_length: usize,
-            generation: u64,
-        ) -> Answer;
-        pub fn router_match(
-            nodes: usize,
-            targets: usize,
-            node_words: *const u32,
-            node_words_length: usize,
-            target_words: *const u32,
-            target_words_length: usize,
-            subject: *const u8,
-            subject_length: usize,
-            out: *mut u32,
-            out_length: usize,
-        ) -> Answer;
-        pub fn router_match_bytes(
-            nodes: usize,
-            targets: usize,
-            node_bytes: *const u8,
-            node_bytes_length: usize,
-            target_bytes: *const u8,
-            target_bytes_length: usize,
-            subject: *const u8,
-            subject_length: usize,
-            out_bytes: *mut u8,
-            out_bytes_length: usize,
-        ) -> Answer;
-    }
+/// A cache's state: its slots, how many are used, the generation that they belong to, the last stamp, and the walks so far.
+#[repr(C)]
+#[derive(Clone, Copy, Debug, Default, PartialEq, Eq)]
+pub struct CacheState {
+    pub capacity: usize,
+    pub used: usize,
+    pub generation: u64,
+    pub tick: u64,
+    pub walks: u64,
+}
+
+/// 0 and the state of a new snapshot, or 19 or 20 and zeros.
+#[repr(C)]
+#[derive(Clone, Copy, Debug, Default, PartialEq, Eq)]
+pub struct MadeSnapshot {
+    pub number: u64,
+    pub nodes: u64,
+    pub targets: u64,
+    pub generation: u64,
+    pub next: u64,
+}
+
+/// 0 and the generation stamped, or 19 or 20 and 0; then the snapshot's state afterwards, which a refusal leaves as it was.
+#[repr(C)]
+#[derive(Clone, Copy, Debug, Default, PartialEq, Eq)]
+pub struct Stored {
+    pub number: u64,
+    pub stamped: u64,
+    pub nodes: u64,
+    pub targets: u64,
+    pub generation: u64,
+    pub next: u64,
+}
+
+/// 0 and the state of a new cache, or 17 and zeros.
+#[repr(C)]
+#[derive(Clone, Copy, Debug, Default, PartialEq, Eq)]
+pub struct MadeCache {
+    pub number: u64,
+    pub capacity: u64,
+    pub used: u64,
+    pub generation: u64,
+    pub tick: u64,
+    pub walks: u64,
+}
+
+/// What a resolve answers, as an [`Answer`] has it; then the cache's state afterwards.
+#[repr(C)]
+#[derive(Clone, Copy, Debug, Default, PartialEq, Eq)]
+pub struct Resolved {
+    pub number: u64,
+    pub first: u64,
+    pub second: u64,
+    pub third: u64,
+    pub capacity: u64,
+    pub used: u64,
+    pub generation: u64,
+    pub tick: u64,
+    pub walks: u64,
+}
+
+/// 0, the verdict, the peak and the generation; or a refusal, whose values stand in `kind` and `value`.
+/// Of a verdict, kind 0 is NoStream (value 0), 1 is Routed (value: the target), 2 is Ambiguous (value: how many matched).
+#[repr(C)]
+#[derive(Clone, Copy, Debug, Default, PartialEq, Eq)]
+pub struct Verdict {
+    pub number: u64,
+    pub kind: u64,
+    pub value: u64,
+    pub peak: u64,
+    pub generation: u64,
 }
 
 // SAFETY, for each call below: it reads the slices that it is passed, writes those that it is lent as `mut`, and touches nothing else. They are lent to it until it returns.
@@ -125,7 +148,7 @@ pub fn has_tail_wildcard(text: &[u8]) -> bool {
 pub fn insert(
     entries: usize,
     used: usize,
-    words: &mut [usize],
+    numbers: &mut [usize],
     store: &mut [u8],
     pattern: &[u8],
     target: u32,
@@ -134,8 +157,8 @@ pub fn insert(
         c::router_insert(
             entries,
             used,
-            words.as_mut_ptr(),
-            words.len(),
+            numbers.as_mut_ptr(),
+            numbers.len(),
             store.as_mut_ptr(),
             store.len(),
             pattern.as_ptr(),
@@ -147,22 +170,22 @@ pub fn insert(
 
 /// The table of a list of entries, all of it: node count, worst case and generation, or 10, 12 to 16.
 pub fn build(
-    words: &[usize],
+    numbers: &[usize],
     store: &[u8],
-    nodes: &mut [u32],
-    targets: &mut [u32],
+    node_words: &mut [u32],
+    target_words: &mut [u32],
     generation: u64,
 ) -> Answer {
     unsafe {
         c::router_build(
-            words.as_ptr(),
-            words.len(),
+            numbers.as_ptr(),
+            numbers.len(),
             store.as_ptr(),
             store.len(),
-            nodes.as_mut_ptr(),
-            nodes.len(),
-            targets.as_mut_ptr(),
-            targets.len(),
+            node_words.as_mut_ptr(),
+            node_words.len(),
+            target_words.as_mut_ptr(),
+            target_words.len(),
             generation,
         )
     }
@@ -215,6 +238,223 @@ pub fn match_bytes(
             subject.len(),
             out_bytes.as_mut_ptr(),
             out_bytes.len(),
+        )
+    }
+}
+
+/// A snapshot with a copy of a first table in its area, which keeps its generation; the first store will stamp 1. Or 19, 20.
+pub fn snapshot_new(
+    nodes: usize,
+    targets: usize,
+    generation: u64,
+    node_words: &[u32],
+    target_words: &[u32],
+    area: &mut [u32],
+) -> MadeSnapshot {
+    unsafe {
+        c::router_snapshot_new(
+            nodes,
+            targets,
+            generation,
+            node_words.as_ptr(),
+            node_words.len(),
+            target_words.as_ptr(),
+            target_words.len(),
+            area.as_mut_ptr(),
+            area.len(),
+        )
+    }
+}
+
+/// A snapshot whose first table has no entries. Or 20.
+pub fn snapshot_empty(area: &mut [u32]) -> MadeSnapshot {
+    unsafe { c::router_snapshot_empty(area.as_mut_ptr(), area.len()) }
+}
+
+/// A table is copied into the snapshot's area, stamped with the counter, and stands from then on. Its own generation is not used. Or 19, 20.
+pub fn store(
+    snapshot: SnapshotState,
+    nodes: usize,
+    targets: usize,
+    generation: u64,
+    node_words: &[u32],
+    target_words: &[u32],
+    area: &mut [u32],
+) -> Stored {
+    unsafe {
+        c::router_store(
+            snapshot,
+            nodes,
+            targets,
+            generation,
+            node_words.as_ptr(),
+            node_words.len(),
+            target_words.as_ptr(),
+            target_words.len(),
+            area.as_mut_ptr(),
+            area.len(),
+        )
+    }
+}
+
+/// The targets that a subject matches in the standing table, written to `out`: their number, the peak and the generation, or 1 to 9, 19, 21.
+pub fn snapshot_match(
+    snapshot: SnapshotState,
+    area: &[u32],
+    subject: &[u8],
+    out: &mut [u32],
+) -> Answer {
+    unsafe {
+        c::router_snapshot_match(
+            snapshot,
+            area.as_ptr(),
+            area.len(),
+            subject.as_ptr(),
+            subject.len(),
+            out.as_mut_ptr(),
+            out.len(),
+        )
+    }
+}
+
+/// A fresh cache of so many slots, 0 counting as 1, over areas of 3 numbers, 256 bytes and 16 targets a slot. Or 17.
+pub fn cache_new(capacity: usize, heads: &[u64], keys: &[u8], kept: &[u32]) -> MadeCache {
+    unsafe {
+        c::router_cache_new(
+            capacity,
+            heads.as_ptr(),
+            heads.len(),
+            keys.as_ptr(),
+            keys.len(),
+            kept.as_ptr(),
+            kept.len(),
+        )
+    }
+}
+
+/// The cache emptied, its tick 0; generation and walks remain.
+pub fn cache_clear(cache: CacheState) -> CacheState {
+    unsafe { c::router_cache_clear(cache) }
+}
+
+/// The targets of a subject through a cache: where the list lies (0 in `kept`, 1 in `out`), its first place and its length. Or 1 to 9, 17 to 19, 21.
+#[allow(clippy::too_many_arguments)]
+pub fn resolve(
+    cache: CacheState,
+    heads: &mut [u64],
+    keys: &mut [u8],
+    kept: &mut [u32],
+    snapshot: SnapshotState,
+    area: &[u32],
+    subject: &[u8],
+    out: &mut [u32],
+) -> Resolved {
+    unsafe {
+        c::router_resolve(
+            cache,
+            heads.as_mut_ptr(),
+            heads.len(),
+            keys.as_mut_ptr(),
+            keys.len(),
+            kept.as_mut_ptr(),
+            kept.len(),
+            snapshot,
+            area.as_ptr(),
+            area.len(),
+            subject.as_ptr(),
+            subject.len(),
+            out.as_mut_ptr(),
+            out.len(),
+        )
+    }
+}
+
+/// The same on areas of bytes, lowest byte of a number first: 8 bytes a number of `heads`, 4 a word of the others; places and length count words.
+/// 99 if `heads`, `kept`, `area` and `out` are together more than 65,536 bytes.
+#[allow(clippy::too_many_arguments)]
+pub fn resolve_bytes(
+    cache: CacheState,
+    heads: &mut [u8],
+    keys: &mut [u8],
+    kept: &mut [u8],
+    snapshot: SnapshotState,
+    area: &[u8],
+    subject: &[u8],
+    out: &mut [u8],
+) -> Resolved {
+    unsafe {
+        c::router_resolve_bytes(
+            cache,
+            heads.as_mut_ptr(),
+            heads.len(),
+            keys.as_mut_ptr(),
+            keys.len(),
+            kept.as_mut_ptr(),
+            kept.len(),
+            snapshot,
+            area.as_ptr(),
+            area.len(),
+            subject.as_ptr(),
+            subject.len(),
+            out.as_mut_ptr(),
+            out.len(),
+        )
+    }
+}
+
+/// The verdict on a list of targets: 0, its kind and its value, as [`Verdict`] has them.
+pub fn single_home(list: &[u32]) -> Answer {
+    unsafe { c::router_single_home(list.as_ptr(), list.len()) }
+}
+
+/// The verdict on a subject by the standing table. The list is written to `out` as by a match. Or 1 to 9, 19, 21.
+pub fn resolve_single_home(
+    snapshot: SnapshotState,
+    area: &[u32],
+    subject: &[u8],
+    out: &mut [u32],
+) -> Verdict {
+    unsafe {
+        c::router_resolve_single_home(
+            snapshot,
+            area.as_ptr(),
+            area.len(),
+            subject.as_ptr(),
+            subject.len(),
+            out.as_mut_ptr(),
+            out.len(),
+        )
+    }
+}
+
+/// The verdict on a subject through a cache: kind, value and 0. Or the refusals of [`resolve`].
+#[allow(clippy::too_many_arguments)]
+pub fn resolve_single_home_cached(
+    cache: CacheState,
+    heads: &mut [u64],
+    keys: &mut [u8],
+    kept: &mut [u32],
+    snapshot: SnapshotState,
+    area: &[u32],
+    subject: &[u8],
+    out: &mut [u32],
+) -> Resolved {
+    unsafe {
+        c::router_resolve_single_home_cached(
+            cache,
+            heads.as_mut_ptr(),
+            heads.len(),
+            keys.as_mut_ptr(),
+            keys.len(),
+            kept.as_mut_ptr(),
+            kept.len(),
+            snapshot,
+            area.as_ptr(),
+            area.len(),
+            subject.as_ptr(),
+            subject.len(),
+            out.as_mut_ptr(),
+            out.len(),
         )
     }
 }
