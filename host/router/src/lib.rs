@@ -27,11 +27,13 @@
 //! }
 //! ```
 #![no_std]
+#![deny(unsafe_code)]
 
 mod answers;
 pub mod binding;
 pub mod bytes;
 pub mod limits;
+#[allow(unsafe_code)]
 pub mod raw;
 pub mod refusal;
 pub mod resolve_cache;

@@ -157,6 +157,26 @@ fn command(name: &OsString, words: Vec<OsString>) -> Result<Command, Trouble> {
     }
 }
 
+/// Refuses an option that the command does not have.
+fn check_options(command: &Command, options: &Options) -> Result<(), Trouble> {
+    let tree = matches!(command, Command::Tree { .. });
+    let route = matches!(command, Command::Route { .. });
+    let texts = matches!(command, Command::Texts { .. });
+    let misplaced = [
+        (options.depth.is_some() && !tree, "--depth is for yard tree"),
+        (options.under.is_some() && !tree, "--under is for yard tree"),
+        (
+            options.verbose && !tree && !route,
+            "--verbose is for yard route and yard tree",
+        ),
+        (options.json && texts, "yard texts has no --json"),
+    ];
+    match misplaced.iter().find(|(wrong, _)| *wrong) {
+        Some((_, fault)) => Err(usage((*fault).into())),
+        None => Ok(()),
+    }
+}
+
 /// The request that the arguments behind the program's name make.
 pub fn read(arguments: impl Iterator<Item = OsString>) -> Result<Request, Trouble> {
     let mut sorted = sort(arguments)?;
@@ -168,7 +188,9 @@ pub fn read(arguments: impl Iterator<Item = OsString>) -> Result<Request, Troubl
         return Err(usage("no command is given".into()));
     } else {
         let name = sorted.words.remove(0);
-        command(&name, sorted.words)?
+        let command = command(&name, sorted.words)?;
+        check_options(&command, &sorted.options)?;
+        command
     };
     Ok(Request {
         command,
@@ -226,6 +248,10 @@ mod tests {
             &["check", "a", "--jason"],
             &["matches", "a"],
             &["parse"],
+            &["check", "a", "--depth", "3"],
+            &["route", "a", "b", "--under", "c"],
+            &["check", "a", "-v"],
+            &["texts", "a", "--json"],
         ] {
             assert_eq!(request(words), None, "{words:?}");
         }

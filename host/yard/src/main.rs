@@ -1,4 +1,6 @@
 //! The command for a yard's binding list. `yard --help` says what it does.
+#![forbid(unsafe_code)]
+
 mod check;
 mod command_line;
 mod desk;

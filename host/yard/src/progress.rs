@@ -1,8 +1,15 @@
-//! A line on standard error that says how far a long command is.
+//! What is said to a person on standard error: what is waited for, and how far a long command is.
 use crate::shown::grouped;
 use crate::trouble::complain;
-use std::io::{stderr, stdout, IsTerminal};
+use std::io::{stderr, stdin, stdout, IsTerminal};
 use std::time::{Duration, Instant};
+
+/// Tells a person at the keyboard what is waited for.
+pub fn ask_for(what: &str) {
+    if stdin().is_terminal() && stderr().is_terminal() {
+        complain(&format!("{what}, one a line; Ctrl-D ends\n"));
+    }
+}
 
 /// How often the clock is looked at, and how long the line stands.
 const EVERY: usize = 1024;

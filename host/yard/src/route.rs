@@ -5,7 +5,7 @@ use crate::input::{next_line, InputLine};
 use crate::json::{array, Object};
 use crate::list::Line;
 use crate::load::ListFile;
-use crate::progress::Progress;
+use crate::progress::{ask_for, Progress};
 use crate::shown::{counted, grouped, shown};
 use crate::trouble::{Status, Trouble};
 use router::{Refusal, Resolution};
@@ -196,6 +196,7 @@ impl<W: Write> Answers<'_, '_, '_, W> {
     fn answer_input(&mut self) -> Result<(), Trouble> {
         let mut reader = BufReader::with_capacity(BUFFER, io::stdin().lock());
         let mut progress = Progress::of("subjects");
+        ask_for("subjects");
         loop {
             if !reader.buffer().contains(&b'\n') {
                 self.out.flush()?;
