@@ -8,7 +8,7 @@ yard: checks a yard's binding list, routes orders by it, and shows why.
   yard tree LIST                      the table that is built from the list, drawn as a tree
   yard parse TEXT..                   what each text is as a pattern and as a subject
   yard matches PATTERN SUBJECT        whether one pattern matches one subject
-  yard texts FILE                     the same for the patterns and subjects of a file
+  yard texts FILE                     both, for all lines `pattern TEXT` and `subject TEXT` of a file
 
 LIST is a file, or - for standard input. Where no SUBJECT is given, subjects are read from standard
 input, one a line; there, empty lines and lines that begin with # are passed over.
