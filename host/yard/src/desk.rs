@@ -2,7 +2,7 @@
 use crate::list::Line;
 use crate::tables::Tables;
 use crate::tree_words::Words;
-use router::{Refusal, Resolution};
+use router::{resolve_single_home, table_words, Refusal, Resolution, Snapshot, Table};
 
 /// What becomes of an order.
 pub struct Order<'d, 'f> {
@@ -37,48 +37,45 @@ impl<'d, 'f> Order<'d, 'f> {
     }
 }
 
-/// The tables of a list, with room for what they answer.
+/// The table of a list as it stands, with room for what it answers.
 pub struct Desk<'d, 'f> {
     lines: &'d [Line<'f>],
-    tables: &'d Tables,
-    targets: Vec<u32>,
-    places: Vec<u32>,
+    snapshot: Snapshot<'d>,
+    places: Table<'d>,
+    target_room: Vec<u32>,
+    place_room: Vec<u32>,
 }
 
-/// The verdict on a list of targets.
-fn verdict(list: &[u32]) -> Resolution {
-    match *list {
-        [] => Resolution::NoStream,
-        [target] => Resolution::Routed(target),
-        _ => Resolution::Ambiguous {
-            matched: list.len(),
-        },
-    }
+/// The words of the area in which the table of a list stands.
+pub fn area_for(tables: &Tables) -> Vec<u32> {
+    vec![0; table_words(tables.targets.nodes, tables.targets.targets)]
 }
 
 impl<'d, 'f> Desk<'d, 'f> {
-    pub fn new(lines: &'d [Line<'f>], tables: &'d Tables) -> Desk<'d, 'f> {
-        Desk {
+    /// The table of targets stands in a lent area.
+    pub fn new(
+        lines: &'d [Line<'f>],
+        tables: &'d Tables,
+        area: &'d mut [u32],
+    ) -> Result<Desk<'d, 'f>, Refusal> {
+        Ok(Desk {
             lines,
-            tables,
-            targets: vec![0; lines.len()],
-            places: vec![0; lines.len()],
-        }
+            snapshot: Snapshot::new(&tables.targets.lent(), area)?,
+            places: tables.places.lent(),
+            target_room: vec![0; lines.len()],
+            place_room: vec![0; lines.len()],
+        })
     }
 
-    /// Where an order goes: by the table of targets; the lines come from the table of places.
+    /// Where an order goes, by the router's verdict on the table of targets. The lines that match come from the table of places.
     pub fn order(&mut self, subject: &[u8]) -> Result<Order<'_, 'f>, Refusal> {
-        let targets = self.tables.targets.lent();
-        let found = targets.match_into(subject, &mut self.targets)?;
-        let resolution = verdict(found.list);
-        let peak = found.peak;
-        let places = self.tables.places.lent();
-        let places = places.match_into(subject, &mut self.places)?.list;
+        let verdict = resolve_single_home(&self.snapshot, subject, &mut self.target_room)?;
+        let found = self.places.match_into(subject, &mut self.place_room)?;
         Ok(Order {
-            resolution,
-            peak,
-            words: Words::new(self.tables.places.lent()),
-            places,
+            resolution: verdict.resolution,
+            peak: verdict.peak,
+            words: Words::new(self.places),
+            places: found.list,
             lines: self.lines,
         })
     }

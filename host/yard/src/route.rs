@@ -1,6 +1,6 @@
 //! `yard route`: where each order goes, and which lines of the list say so.
 use crate::command_line::Options;
-use crate::desk::{Desk, Order};
+use crate::desk::{self, Desk, Order};
 use crate::input::{next_line, InputLine};
 use crate::json::{array, Object};
 use crate::list::Line;
@@ -236,8 +236,13 @@ pub fn run(
         loaded.tell_refusal(&file.name, options.json, out)?;
         return Ok(Status::Refused);
     };
+    let mut area = desk::area_for(tables);
+    let desk = Desk::new(&loaded.lines, tables, &mut area).map_err(|e| Trouble::File {
+        name: file.name.clone(),
+        reason: e.to_string(),
+    })?;
     let mut answers = Answers {
-        desk: Desk::new(&loaded.lines, tables),
+        desk,
         options,
         out,
         tally: Tally::default(),
