@@ -6,7 +6,7 @@
 //!
 //! The names are those of the original: `parse`, `matches`, `insert`, `build`, `store`, `match_into`, `resolve`, `single_home`.
 //!
-//! ```no_run
+//! ```
 //! use router::{List, Refusal, Resolution, Snapshot};
 //!
 //! fn main() -> Result<(), Refusal> {
