@@ -1,0 +1,149 @@
+//! The comparisons themselves, and their count.
+use compare::lists::Line;
+use compare::original;
+use router::raw::{self, Answer};
+use std::collections::BTreeMap;
+use std::fmt::Debug;
+use std::process::{exit, ExitCode};
+use std::time::Duration;
+
+/// The numbers that the inputs must bring up.
+const NUMBERS: [u64; 20] = [
+    0, 1, 2, 3, 4, 5, 6, 7, 8, 9, 10, 11, 12, 13, 14, 15, 16, 19, 21, 99,
+];
+
+#[derive(Default)]
+pub struct Tally {
+    total: u64,
+    reported: u64,
+    answers: BTreeMap<u64, u64>,
+    /// Matches of a pattern that were answered by no and by yes.
+    verdicts: [u64; 2],
+    /// Tables built, and matches on tables.
+    pub builds: u64,
+    pub matches: u64,
+    pub largest_table: u64,
+    pub largest_peak: u64,
+}
+
+/// Says what differs and ends the run.
+fn differs<T: Debug>(call: &str, inputs: &str, ours: T, theirs: T) -> ! {
+    eprintln!("{call} differs\n{inputs}  the router: {ours:?}\n  as it should be: {theirs:?}");
+    exit(1)
+}
+
+fn shown(texts: &[&[u8]]) -> String {
+    let line = |text: &&[u8]| format!("  on {text:02x?} \"{}\"\n", text.escape_ascii());
+    texts.iter().map(line).collect()
+}
+
+fn shown_lines(lines: &[Line]) -> String {
+    let line = |(pattern, target): &Line| format!("  {target} {}\n", pattern.escape_ascii());
+    lines.iter().map(line).collect()
+}
+
+impl Tally {
+    fn compare<T: PartialEq + Debug>(&mut self, call: &str, inputs: &[&[u8]], ours: T, theirs: T) {
+        self.compare_on(call, || shown(inputs), ours, theirs);
+    }
+
+    fn compare_answers(&mut self, call: &str, inputs: &[&[u8]], ours: Answer, theirs: Answer) {
+        self.compare(call, inputs, ours, theirs);
+        self.met(theirs);
+    }
+
+    /// Compares two values; what they were got from is asked for where they differ.
+    pub fn compare_on<T: PartialEq + Debug>(
+        &mut self,
+        call: &str,
+        inputs: impl FnOnce() -> String,
+        ours: T,
+        theirs: T,
+    ) {
+        if ours != theirs {
+            differs(call, &inputs(), ours, theirs);
+        }
+        self.total += 1;
+    }
+
+    /// Compares two values got from a list of lines, and from a text.
+    pub fn compare_list<T: PartialEq + Debug>(
+        &mut self,
+        call: &str,
+        lines: &[Line],
+        text: &[u8],
+        ours: T,
+        theirs: T,
+    ) {
+        let inputs = || shown_lines(lines) + &shown(&[text]);
+        self.compare_on(call, inputs, ours, theirs);
+    }
+
+    /// An answer came up.
+    pub fn met(&mut self, answer: Answer) {
+        *self.answers.entry(answer.number).or_default() += 1;
+    }
+
+    /// A text as a subject and as a pattern, its depth, and whether it ends in `>`.
+    pub fn text(&mut self, text: &[u8]) {
+        let inputs = [text];
+        let ours = raw::parse_literal(text);
+        self.compare_answers(
+            "parse_literal",
+            &inputs,
+            ours,
+            original::parse_literal(text),
+        );
+        self.compare_answers("parse", &inputs, raw::parse(text), original::parse(text));
+        let (depth, tail) = original::depth_and_tail(text);
+        self.compare("depth", &inputs, raw::depth(text), depth);
+        let ours = raw::has_tail_wildcard(text);
+        self.compare("has_tail_wildcard", &inputs, ours, tail);
+    }
+
+    /// A pattern against a subject.
+    pub fn matching(&mut self, pattern: &[u8], subject: &[u8]) {
+        let inputs = [pattern, subject];
+        let theirs = original::matches(pattern, subject);
+        self.compare_answers("matches", &inputs, raw::matches(pattern, subject), theirs);
+        if theirs.accepted() {
+            self.verdicts[theirs.first as usize] += 1;
+        }
+    }
+
+    /// The hash of a token, as the original's table computes it.
+    pub fn hash(&mut self, token: &[u8]) {
+        let theirs = original::token_hash(token);
+        self.compare("token_hash", &[token], raw::token_hash(token), theirs);
+    }
+
+    /// Says how many comparisons were made since the last report.
+    pub fn report(&mut self, part: &str) {
+        println!("{:>12} comparisons: {part}", self.total - self.reported);
+        self.reported = self.total;
+    }
+
+    /// Says what was met in all. An answer that never came up means that the inputs miss a rule, and fails.
+    pub fn close(&self, took: Duration) -> ExitCode {
+        let [no, yes] = self.verdicts;
+        println!("answers by number: {:?}", self.answers);
+        println!("matches of a pattern: {yes} yes, {no} no");
+        println!(
+            "tables: {} built, {} matches on them; the largest has {} nodes, the largest peak is {}",
+            self.builds, self.matches, self.largest_table, self.largest_peak
+        );
+        let all_met = NUMBERS
+            .iter()
+            .all(|number| self.answers.contains_key(number));
+        if !all_met || self.verdicts.contains(&0) {
+            eprintln!("an answer never came up");
+            return ExitCode::FAILURE;
+        }
+        let seconds = took.as_secs_f64();
+        println!(
+            "{} comparisons in {seconds:.1} s, no difference",
+            self.total
+        );
+        ExitCode::SUCCESS
+    }
+}

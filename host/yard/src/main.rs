@@ -1,0 +1,70 @@
+//! The command for a yard's binding list. `yard --help` says what it does.
+#![forbid(unsafe_code)]
+
+mod check;
+mod command_line;
+mod desk;
+mod faults;
+mod help;
+mod input;
+mod json;
+mod list;
+mod load;
+mod natural;
+mod notes;
+mod progress;
+mod route;
+mod shown;
+mod single;
+mod tables;
+mod texts;
+mod tree;
+mod tree_words;
+mod trouble;
+
+use command_line::{Command, Request};
+use std::io::{self, BufWriter, Write};
+use std::process::ExitCode;
+use trouble::{Status, Trouble};
+
+/// Bytes of output that are gathered before they are written.
+const BUFFER: usize = 1 << 16;
+
+fn run(request: &Request, out: &mut impl Write) -> Result<Status, Trouble> {
+    let options = &request.options;
+    match &request.command {
+        Command::Help => Ok(out
+            .write_all(help::TEXT.as_bytes())
+            .map(|()| Status::Good)?),
+        Command::Version => {
+            Ok(writeln!(out, "yard {}", env!("CARGO_PKG_VERSION")).map(|()| Status::Good)?)
+        }
+        Command::Check { list } => check::run(list, options, out),
+        Command::Route { list, subjects } => route::run(list, subjects, options, out),
+        Command::Tree { list } => tree::run(list, options, out),
+        Command::Parse { texts } => single::parse(texts, options, out),
+        Command::Matches { pattern, subject } => single::matches(pattern, subject, options, out),
+        Command::Texts { file } => texts::run(file, out),
+    }
+}
+
+fn answer(request: &Request) -> Result<Status, Trouble> {
+    let mut out = BufWriter::with_capacity(BUFFER, io::stdout().lock());
+    let told = run(request, &mut out);
+    let flushed = out.flush();
+    let status = told?;
+    flushed?;
+    Ok(status)
+}
+
+fn main() -> ExitCode {
+    let arguments = std::env::args_os().skip(1);
+    let done = command_line::read(arguments).and_then(|request| answer(&request));
+    match done {
+        Ok(status) => status.into(),
+        Err(trouble) => {
+            trouble.tell();
+            Status::Refused.into()
+        }
+    }
+}
