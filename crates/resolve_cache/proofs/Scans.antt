@@ -1,17 +1,21 @@
 -- The loops that look through the slots: one turn of each, from slot i of n on.
-use Prim.Native.Nat.{ℕ, suc, _+_, _-_, _≤_, _<_}
+use Prim.Native.Nat.{ℕ, zero, suc, _+_, _*_, _-_, _≤_, _<_}
 use native.Mathlib.Omega.{arith}
 use native.Mathlib.Numerals.{add-one}
-use mathlib.Core.Path.{_≡_}
+use mathlib.Core.Path.{_≡_, refl, sym, _∙_, ap}
 use mathlib.Core.Bool.{Bool, true, false}
 use mathlib.Core.List.{List}
 use mathlib.Core.Option.{Option, none, some}
 use lib.Dec.{ltb}
-use borrow.Author.Tests.{lt-ltb, le-ltb}
+use lib.ListN.{length, drop, length-drop}
+use lib.Seq.{length-take-le}
+use borrow.Author.Tests.{lt-ltb, le-ltb, ltb-true, ltb-false}
 use Rattle.subject.specs.Choice.{pick, or}
 use Rattle.subject.specs.Text.{same}
+use Rattle.sublist_tree.proofs.Bytes.{same-sound}
 use Rattle.resolve_cache.specs.Area.{keyLength, targetCount, stampAt, keyAt}
 use Rattle.resolve_cache.specs.Cache.{badFrom, findFrom, oldestFrom}
+use Rattle.resolve_cache.specs.Deciding.{Small, Passes}
 
 left-one : (i n : ℕ) → i < n → n - i ≡ suc (n - suc i)
 left-one i n h = omega arith
@@ -54,6 +58,42 @@ module _ (heads keys subject : List ℕ) (i n : ℕ) (x : Option ℕ) (h : i < n
 
   pub look-on : same (keyAt heads keys i) subject ≡ false → findFrom heads keys subject (i + 1) (n - (i + 1)) ≡ x
   look-on q = rw add-one (rw q at find-here)
+
+-- one more slot whose key has another size
+pub one-more : (heads : List ℕ) (size from i : ℕ) → ((j : ℕ) → from ≤ j → j < i → keyLength heads j ≡ size → ⊥) → (keyLength heads i ≡ size → ⊥)
+    → (j : ℕ) → from ≤ j → j < i + 1 → keyLength heads j ≡ size → ⊥
+one-more heads size from i before here j l m = go (ltb j i) refl
+  where
+    go : (b : Bool) → ltb j i ≡ b → keyLength heads j ≡ size → ⊥
+    go true e = before j l (ltb-true j i e)
+    go false e = let z : j ≡ i = omega (arith, ltb-false j i e) in λ q. here (ap (keyLength heads) (sym z) ∙ q)
+
+-- slots whose keys have another size are passed over
+module _ (heads keys subject : List ℕ) (n : ℕ) (few : 256 * n ≤ length keys) (small : Small heads n) where
+  other-size : (i : ℕ) → i < n → (keyLength heads i ≡ length subject → ⊥) → same (keyAt heads keys i) subject ≡ false
+  other-size i h d = go (same (keyAt heads keys i) subject) refl
+    where
+      sized : length (keyAt heads keys i) ≡ keyLength heads i
+      sized = length-take-le (keyLength heads i) (drop (256 * i) keys) (omega (arith, small i h, length-drop (256 * i) keys))
+
+      go : (b : Bool) → same (keyAt heads keys i) subject ≡ b → b ≡ false
+      go true e = absurd (d (sym sized ∙ ap length (same-sound (keyAt heads keys i) subject e)))
+      go false e = refl
+
+  passed : (k i : ℕ) (x : Option ℕ) → i + k ≤ n → ((j : ℕ) → i ≤ j → j < i + k → keyLength heads j ≡ length subject → ⊥)
+      → findFrom heads keys subject i (n - i) ≡ x → findFrom heads keys subject (i + k) (n - (i + k)) ≡ x
+  passed zero i x h d e = rw (let z : i + 0 ≡ i = omega arith in z) e
+  passed (suc k) i x h d e =
+      let z : i + suc k ≡ (i + 1) + k = omega arith in
+      rw z
+      (passed k (i + 1) x (omega arith) (λ j l m. d j (omega arith) (omega arith))
+      (look-on heads keys subject i n x (omega arith) e (other-size i (omega arith) (d i (omega arith) (omega arith)))))
+
+  pub passed-over : (from to : ℕ) (x : Option ℕ) → Passes heads (length subject) from to n → findFrom heads keys subject from (n - from) ≡ x
+      → findFrom heads keys subject to (n - to) ≡ x
+  passed-over from to x p e =
+      let z : from + (to - from) ≡ to = omega (arith, p .forward) in
+      rw z at (passed (to - from) from x (omega (arith, p .forward, p .inside)) (λ j l m. p .others j l (omega (arith, p .forward))) e)
 
 -- slot i is older than the best so far, or not
 pub oldest-turn : (heads : List ℕ) (best i n next x : ℕ) → i < n → next ≡ pick (ltb (stampAt heads i) (stampAt heads best)) i best

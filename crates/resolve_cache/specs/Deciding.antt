@@ -40,6 +40,12 @@ pub record Ready (c : ResolveCache) (a : Area) : Type 0 where
 abbrev pub Small : List ℕ → ℕ → Type 0
 Small heads n = (i : ℕ) → i < n → keyLength heads i ≤ 256
 
+-- the slots from one place up to another have keys of other sizes
+pub record Passes (heads : List ℕ) (size from to n : ℕ) : Type 0 where
+  pub forward : from ≤ to
+  pub inside : to ≤ n
+  pub others : (i : ℕ) → from ≤ i → i < to → keyLength heads i ≡ size → ⊥
+
 -- a slot that was found
 abbrev pub slotOf : Slot → Option ℕ
 slotOf (At i) = some i

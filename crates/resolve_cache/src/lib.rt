@@ -13,7 +13,7 @@ ghost use Rattle.sublist_snapshot.specs.Snapshot.{wrap};
 ghost use Rattle.resolve_cache.specs.Area.{put, keyLength, keyAt, keep};
 ghost use Rattle.resolve_cache.specs.Cache.{short, badFrom, bad, findFrom, oldestFrom, place, withCapacity, clear, adopt, ticked, hit, walked, grown, handed, resolve};
 ghost use Rattle.resolve_cache.specs.Answers.{cacheAnswer, resolveAnswer, lent, left, listOf};
-ghost use Rattle.resolve_cache.specs.Deciding.{Roomy, Ready, Small, slotOf, seen, Keeps, walking, Decides};
+ghost use Rattle.resolve_cache.specs.Deciding.{Roomy, Ready, Small, Passes, slotOf, seen, Keeps, walking, Decides};
 use subject::Parsed;
 use subject::SubjectError;
 use sublist_snapshot::Generation;
@@ -270,18 +270,34 @@ fn keeps(heads: &[u64], keys: &[u8], i: usize, subject: &[u8]) -> bool
     subject::same_bytes(&keys[start..end], subject)
 }
 
+// The first slot from a place on whose key has so many bytes; n if none of the n slots has.
+fn next_of_size(heads: &[u64], from: usize, n: usize, size: usize) -> usize
+    requires { ⌜ (from ≤ n) × (n ≤ 1024) × (3 * n ≤ length (now heads)) ⌝ }
+    ensures { λ r. ⌜ Passes (now (heads .entry)) size from r n ⌝ }
+{
+    let mut i = from;
+    while i < n {
+        if heads[SLOT_NUMBERS * i] as usize == size {
+            return i;
+        }
+        i += 1;
+    }
+    i
+}
+
 // The first of n slots that keeps the list of a subject.
 fn find(heads: &[u64], keys: &[u8], n: usize, subject: &[u8]) -> Slot
     requires { ⌜ (n ≤ 1024) × (3 * n ≤ length (now heads)) × (256 * n ≤ length (now keys)) ⌝ }
     requires { ⌜ Small (now heads) n ⌝ }
     ensures { λ r. ⌜ slotOf r ≡ findFrom (now (heads .entry)) (now (keys .entry)) (now (subject .entry)) 0 n ⌝ }
 {
-    let mut i = 0;
+    let size = subject.len();
+    let mut i = next_of_size(heads, 0, n, size);
     while i < n {
         if keeps(heads, keys, i, subject) {
             return Slot::At(i);
         }
-        i += 1;
+        i = next_of_size(heads, i + 1, n, size);
     }
     Slot::Nothing
 }

@@ -1,4 +1,13 @@
-// The C calls of the router, on numbers and byte slices. Every call takes any bytes and asks nothing of its caller.
+// The C calls of the router, on numbers and slices. Every call takes any numbers and bytes and asks nothing of its caller.
+use binding::CachedResolution;
+use binding::CachedSingleHome;
+use binding::Resolution;
+use binding::SingleHome;
+use resolve_cache::MadeCache;
+use resolve_cache::ResolveAnswer;
+use resolve_cache::ResolveCache;
+use resolve_cache::Resolved;
+use resolve_cache::Tick;
 use subject::Matched;
 use subject::Parsed;
 use subject::SubjectError;
@@ -6,6 +15,13 @@ use sublist::Built;
 use sublist::Inserted;
 use sublist::ListState;
 use sublist::SublistError;
+use sublist_snapshot::Generation;
+use sublist_snapshot::MadeSnapshot;
+use sublist_snapshot::Snapshot;
+use sublist_snapshot::SnapshotMatch;
+use sublist_snapshot::StoreAnswer;
+use sublist_snapshot::Stored;
+use sublist_snapshot::Sublist;
 use sublist_walk::TableMatch;
 ghost use mathlib.Core.Path.{_≡_};
 ghost use mathlib.Core.Bool.{true, false};
@@ -25,7 +41,13 @@ ghost use Rattle.sublist.specs.Passes.{filling};
 ghost use Rattle.sublist.specs.Leaving.{buildLeaves};
 ghost use Rattle.sublist.specs.Numbers.{entriesIn, numbersAfter};
 ghost use Rattle.sublist_walk.specs.Matching.{outcome, matchAnswer, matchTable};
-ghost use Rattle.router_c.specs.Calls.{answerWords, wordsOf, bit, inWords, listOf};
+ghost use Rattle.sublist_snapshot.specs.Snapshot.{make, makeEmpty, storeIn, matchIn, snapshotNumbers};
+ghost use Rattle.sublist_snapshot.specs.Answers.{madeAnswer, storeAnswer, snapshotAnswer};
+ghost use Rattle.resolve_cache.specs.Cache.{withCapacity, clear, resolve, cacheNumbers};
+ghost use Rattle.resolve_cache.specs.Answers.{cacheAnswer, resolveAnswer, lent};
+ghost use Rattle.binding.specs.Verdict.{singleHome, resolveSingleHome, resolveSingleHomeCached};
+ghost use Rattle.binding.specs.Answers.{homeAnswer, cachedAnswer};
+ghost use Rattle.router_c.specs.Calls.{fill, numbered, answerWords, wordsOf, bit, inWords, listOf, snapshotOf, cacheOf, tableOf, madeWords, storedWords, madeCacheWords, cacheWords, resolvedWords, verdictWords, verdictNumbers, judgedWords};
 ghost use Rattle.router_c.specs.Bytes.{word, wordsIn, bytesOf, onBytes, matchBytes};
 
 // An answer: 0 or the number of a refusal, then its values, 0 where there is none.
@@ -35,6 +57,81 @@ pub struct CAnswer {
     pub first: u64,
     pub second: u64,
     pub third: u64,
+}
+
+// The state of a snapshot, lent by value; its words lie in a lent area.
+#[repr(C)]
+pub struct CSnapshot {
+    pub nodes: usize,
+    pub targets: usize,
+    pub generation: u64,
+    pub next: u64,
+}
+
+// The state of a cache, lent and given back by value; its slots lie in lent areas.
+#[repr(C)]
+pub struct CCache {
+    pub capacity: usize,
+    pub used: usize,
+    pub generation: u64,
+    pub tick: u64,
+    pub walks: u64,
+}
+
+// The making of a snapshot: 0 with its state, or a refusal with zeros.
+#[repr(C)]
+pub struct CMadeSnapshot {
+    pub number: u64,
+    pub nodes: u64,
+    pub targets: u64,
+    pub generation: u64,
+    pub next: u64,
+}
+
+// A store: 0 with the generation stamped, or a refusal with 0; then the snapshot afterwards.
+#[repr(C)]
+pub struct CStored {
+    pub number: u64,
+    pub stamped: u64,
+    pub nodes: u64,
+    pub targets: u64,
+    pub generation: u64,
+    pub next: u64,
+}
+
+// The making of a cache: 0 with its state, or a refusal with zeros.
+#[repr(C)]
+pub struct CMadeCache {
+    pub number: u64,
+    pub capacity: u64,
+    pub used: u64,
+    pub generation: u64,
+    pub tick: u64,
+    pub walks: u64,
+}
+
+// An answer as that of CAnswer, then the cache afterwards.
+#[repr(C)]
+pub struct CResolved {
+    pub number: u64,
+    pub first: u64,
+    pub second: u64,
+    pub third: u64,
+    pub capacity: u64,
+    pub used: u64,
+    pub generation: u64,
+    pub tick: u64,
+    pub walks: u64,
+}
+
+// A verdict: 0, its kind (0 no target, 1 one, 2 several), the target or the number of targets, the peak and the generation. Or a refusal with its values, then zeros.
+#[repr(C)]
+pub struct CVerdict {
+    pub number: u64,
+    pub kind: u64,
+    pub value: u64,
+    pub peak: u64,
+    pub generation: u64,
 }
 
 // An answer with up to two values.
@@ -442,4 +539,419 @@ pub extern "C" fn router_match_bytes(
         &mut out,
         out_bytes,
     )
+}
+
+fn snapshot_of(s: CSnapshot) -> Snapshot
+    ensures { λ r. ⌜ r ≡ snapshotOf s ⌝ }
+{
+    Snapshot {
+        nodes: s.nodes,
+        targets: s.targets,
+        generation: Generation(s.generation),
+        next: Generation(s.next),
+    }
+}
+
+// A fresh snapshot: its state, or the refusal.
+fn of_made(m: MadeSnapshot) -> CMadeSnapshot
+    ensures { λ r. ⌜ madeWords r ≡ numbered 4 (madeAnswer m) ⌝ }
+{
+    match m {
+        MadeSnapshot::Made(s) => {
+            let generation = s.generation;
+            let next = s.next;
+            CMadeSnapshot {
+                number: 0,
+                nodes: s.nodes as u64,
+                targets: s.targets as u64,
+                generation: generation.0,
+                next: next.0,
+            }
+        }
+        MadeSnapshot::Damaged => not_made(19),
+        MadeSnapshot::StoreFull => not_made(20),
+    }
+}
+
+fn not_made(number: u64) -> CMadeSnapshot
+    ensures { λ r. ⌜ madeWords r ≡ number ∷ 0 ∷ 0 ∷ 0 ∷ 0 ∷ [] ⌝ }
+{
+    CMadeSnapshot {
+        number,
+        nodes: 0,
+        targets: 0,
+        generation: 0,
+        next: 0,
+    }
+}
+
+// A snapshot of a first table, whose words are copied to the area: its state, or why not.
+#[no_mangle]
+pub extern "C" fn router_snapshot_new(
+    nodes: usize,
+    targets: usize,
+    generation: u64,
+    node_words: &[u32],
+    target_words: &[u32],
+    area: &mut [u32],
+) -> CMadeSnapshot
+    ensures { λ r. ⌜ (madeWords r ≡ numbered 4 ((make (tableOf nodes targets generation (now («node_words» .entry)) (now («target_words» .entry))) (now (area .entry))) .says)) × (now (area .exit) ≡ (make (tableOf nodes targets generation (now («node_words» .entry)) (now («target_words» .entry))) (now (area .entry))) .area) ⌝ }
+{
+    let table = Sublist {
+        nodes,
+        targets,
+        generation: Generation(generation),
+    };
+    of_made(Snapshot::new(table, node_words, target_words, area))
+}
+
+// A snapshot of the table of no entries: its state, or why not.
+#[no_mangle]
+pub extern "C" fn router_snapshot_empty(area: &mut [u32]) -> CMadeSnapshot
+    ensures { λ r. ⌜ (madeWords r ≡ numbered 4 ((makeEmpty (now (area .entry))) .says)) × (now (area .exit) ≡ (makeEmpty (now (area .entry))) .area) ⌝ }
+{
+    of_made(Snapshot::empty(area))
+}
+
+// A store: 0 or the number of a refusal, the generation stamped or 0, then the snapshot afterwards.
+fn stored_of(number: u64, stamped: u64, s: Snapshot) -> CStored
+    ensures { λ r. ⌜ storedWords r ≡ number ∷ stamped ∷ snapshotNumbers s ⌝ }
+{
+    let generation = s.generation;
+    let next = s.next;
+    CStored {
+        number,
+        stamped,
+        nodes: s.nodes as u64,
+        targets: s.targets as u64,
+        generation: generation.0,
+        next: next.0,
+    }
+}
+
+fn of_stored(s: Stored) -> CStored
+    ensures { λ r. ⌜ storedWords r ≡ numbered 1 (storeAnswer (s .answer)) ++ snapshotNumbers (s .snapshot) ⌝ }
+{
+    let snapshot = s.snapshot;
+    let answer = s.answer;
+    match answer {
+        StoreAnswer::Stamped(generation) => stored_of(0, generation.0, snapshot),
+        StoreAnswer::Damaged => stored_of(19, 0, snapshot),
+        StoreAnswer::StoreFull => stored_of(20, 0, snapshot),
+    }
+}
+
+// A table takes the place of the standing one and is stamped with the counter; the generation that build gave it is not used.
+#[no_mangle]
+pub extern "C" fn router_store(
+    snapshot: CSnapshot,
+    nodes: usize,
+    targets: usize,
+    generation: u64,
+    node_words: &[u32],
+    target_words: &[u32],
+    area: &mut [u32],
+) -> CStored
+    ensures { λ r. ⌜ (storedWords r ≡ numbered 1 ((storeIn (snapshotOf snapshot) (now (area .entry)) (tableOf nodes targets generation (now («node_words» .entry)) (now («target_words» .entry)))) .says) ++ snapshotNumbers ((storeIn (snapshotOf snapshot) (now (area .entry)) (tableOf nodes targets generation (now («node_words» .entry)) (now («target_words» .entry)))) .snapshot)) × (now (area .exit) ≡ (storeIn (snapshotOf snapshot) (now (area .entry)) (tableOf nodes targets generation (now («node_words» .entry)) (now («target_words» .entry)))) .area) ⌝ }
+{
+    let standing = snapshot_of(snapshot);
+    let table = Sublist {
+        nodes,
+        targets,
+        generation: Generation(generation),
+    };
+    of_stored(standing.store(table, node_words, target_words, area))
+}
+
+// A match through a snapshot: the list's length, the peak and the generation, or the refusal.
+fn of_snapshot_match(m: SnapshotMatch) -> CAnswer
+    ensures { λ r. ⌜ wordsOf r ≡ answerWords (snapshotAnswer m) ⌝ }
+{
+    match m {
+        SnapshotMatch::Listed {
+            count,
+            peak,
+            generation,
+        } => CAnswer {
+            number: 0,
+            first: count as u64,
+            second: peak as u64,
+            third: generation.0,
+        },
+        SnapshotMatch::Invalid(e) => of_refusal(e),
+        SnapshotMatch::Damaged => answer_of(19, 0, 0),
+        SnapshotMatch::OutShort(needed) => answer_of(21, needed as u64, 0),
+    }
+}
+
+// The targets that a subject matches in the standing table, written over the first places of the output: their number, the peak and the generation, or why not.
+#[no_mangle]
+pub extern "C" fn router_snapshot_match(
+    snapshot: CSnapshot,
+    area: &[u32],
+    subject: &[u8],
+    out: &mut [u32],
+) -> CAnswer
+    ensures { λ r. ⌜ (wordsOf r, now (out .exit)) ≡ inWords (matchIn (snapshotOf snapshot) (now (area .entry)) (now (subject .entry)) (now (out .entry))) ⌝ }
+{
+    let standing = snapshot_of(snapshot);
+    of_snapshot_match(standing.match_into(area, subject, out))
+}
+
+fn cache_of(c: CCache) -> ResolveCache
+    ensures { λ r. ⌜ r ≡ cacheOf c ⌝ }
+{
+    ResolveCache {
+        capacity: c.capacity,
+        used: c.used,
+        generation: Generation(c.generation),
+        tick: Tick(c.tick),
+        walks: c.walks,
+    }
+}
+
+fn of_cache(c: ResolveCache) -> CCache
+    ensures { λ r. ⌜ cacheWords r ≡ cacheNumbers c ⌝ }
+{
+    let generation = c.generation;
+    let tick = c.tick;
+    CCache {
+        capacity: c.capacity,
+        used: c.used,
+        generation: generation.0,
+        tick: tick.0,
+        walks: c.walks,
+    }
+}
+
+// A fresh cache: its state, or the refusal.
+fn of_made_cache(m: MadeCache) -> CMadeCache
+    ensures { λ r. ⌜ madeCacheWords r ≡ numbered 5 (cacheAnswer m) ⌝ }
+{
+    match m {
+        MadeCache::Made(cache) => {
+            let c = of_cache(cache);
+            CMadeCache {
+                number: 0,
+                capacity: c.capacity as u64,
+                used: c.used as u64,
+                generation: c.generation,
+                tick: c.tick,
+                walks: c.walks,
+            }
+        }
+        MadeCache::CacheShort => CMadeCache {
+            number: 17,
+            capacity: 0,
+            used: 0,
+            generation: 0,
+            tick: 0,
+            walks: 0,
+        },
+    }
+}
+
+// A fresh cache of so many slots in the lent areas, three numbers, 256 bytes and 16 targets a slot: its state, or why not.
+#[no_mangle]
+pub extern "C" fn router_cache_new(
+    capacity: usize,
+    heads: &[u64],
+    keys: &[u8],
+    kept: &[u32],
+) -> CMadeCache
+    ensures { λ r. ⌜ madeCacheWords r ≡ numbered 5 (withCapacity capacity (lent (now (heads .entry)) (now (keys .entry)) (now (kept .entry)))) ⌝ }
+{
+    of_made_cache(ResolveCache::with_capacity(capacity, heads, keys, kept))
+}
+
+// The cache emptied; generation and walks remain.
+#[no_mangle]
+pub extern "C" fn router_cache_clear(cache: CCache) -> CCache
+    ensures { λ r. ⌜ cacheWords r ≡ cacheNumbers (clear (cacheOf cache)) ⌝ }
+{
+    let own = cache_of(cache);
+    of_cache(own.clear())
+}
+
+// A resolve: where its list lies, or the refusal.
+fn of_resolve_answer(a: ResolveAnswer) -> CAnswer
+    ensures { λ r. ⌜ wordsOf r ≡ answerWords (resolveAnswer a) ⌝ }
+{
+    match a {
+        ResolveAnswer::Kept { from, count } => CAnswer {
+            number: 0,
+            first: 0,
+            second: from as u64,
+            third: count as u64,
+        },
+        ResolveAnswer::Walked { count } => CAnswer {
+            number: 0,
+            first: 1,
+            second: 0,
+            third: count as u64,
+        },
+        ResolveAnswer::Invalid(e) => of_refusal(e),
+        ResolveAnswer::CacheShort => answer_of(17, 0, 0),
+        ResolveAnswer::BadSlot => answer_of(18, 0, 0),
+        ResolveAnswer::Damaged => answer_of(19, 0, 0),
+        ResolveAnswer::OutShort(needed) => answer_of(21, needed as u64, 0),
+    }
+}
+
+// An answer, and the cache afterwards.
+fn with_cache(a: CAnswer, cache: ResolveCache) -> CResolved
+    ensures { λ r. ⌜ resolvedWords r ≡ wordsOf a ++ cacheNumbers cache ⌝ }
+{
+    let generation = cache.generation;
+    let tick = cache.tick;
+    CResolved {
+        number: a.number,
+        first: a.first,
+        second: a.second,
+        third: a.third,
+        capacity: cache.capacity as u64,
+        used: cache.used as u64,
+        generation: generation.0,
+        tick: tick.0,
+        walks: cache.walks,
+    }
+}
+
+fn of_resolved(r: Resolved) -> CResolved
+    ensures { λ w. ⌜ resolvedWords w ≡ numbered 3 (resolveAnswer (r .answer)) ++ cacheNumbers (r .cache) ⌝ }
+{
+    let answer = r.answer;
+    let cache = r.cache;
+    with_cache(of_resolve_answer(answer), cache)
+}
+
+// The targets of a subject, from the cache or by a walk of the standing table: where the list lies (0 in `kept`, 1 in `out`), its first place and its length, or why not; then the cache afterwards.
+#[no_mangle]
+pub extern "C" fn router_resolve(
+    cache: CCache,
+    heads: &mut [u64],
+    keys: &mut [u8],
+    kept: &mut [u32],
+    snapshot: CSnapshot,
+    area: &[u32],
+    subject: &[u8],
+    out: &mut [u32],
+) -> CResolved
+    ensures { λ r. ⌜ (resolvedWords r ≡ numbered 3 ((resolve (cacheOf cache) (lent (now (heads .entry)) (now (keys .entry)) (now (kept .entry))) (snapshotOf snapshot) (now (area .entry)) (now (subject .entry)) (now (out .entry))) .says) ++ cacheNumbers ((resolve (cacheOf cache) (lent (now (heads .entry)) (now (keys .entry)) (now (kept .entry))) (snapshotOf snapshot) (now (area .entry)) (now (subject .entry)) (now (out .entry))) .cache)) × (lent (now (heads .exit)) (now (keys .exit)) (now (kept .exit)) ≡ (resolve (cacheOf cache) (lent (now (heads .entry)) (now (keys .entry)) (now (kept .entry))) (snapshotOf snapshot) (now (area .entry)) (now (subject .entry)) (now (out .entry))) .area) × (now (out .exit) ≡ (resolve (cacheOf cache) (lent (now (heads .entry)) (now (keys .entry)) (now (kept .entry))) (snapshotOf snapshot) (now (area .entry)) (now (subject .entry)) (now (out .entry))) .out) ⌝ }
+{
+    let own = cache_of(cache);
+    let standing = snapshot_of(snapshot);
+    of_resolved(own.resolve(heads, keys, kept, standing, area, subject, out))
+}
+
+// A verdict: its kind, then the target or the number of targets.
+fn of_resolution(v: Resolution) -> CAnswer
+    ensures { λ r. ⌜ wordsOf r ≡ 0 ∷ fill 3 (verdictNumbers v) ⌝ }
+{
+    match v {
+        Resolution::NoStream => answer_of(0, 0, 0),
+        Resolution::Routed(target) => answer_of(0, 1, target as u64),
+        Resolution::Ambiguous { matched } => answer_of(0, 2, matched as u64),
+    }
+}
+
+// The verdict on a list.
+#[no_mangle]
+pub extern "C" fn router_single_home(list: &[u32]) -> CAnswer
+    ensures { λ r. ⌜ wordsOf r ≡ 0 ∷ fill 3 (verdictNumbers (singleHome (now (list .entry)))) ⌝ }
+{
+    of_resolution(binding::single_home(list))
+}
+
+// An answer with up to two values, then the peak and the generation.
+fn verdict_of(a: CAnswer, peak: u64, generation: u64) -> CVerdict
+    ensures { λ r. ⌜ verdictWords r ≡ a .number ∷ a .first ∷ a .second ∷ peak ∷ generation ∷ [] ⌝ }
+{
+    CVerdict {
+        number: a.number,
+        kind: a.first,
+        value: a.second,
+        peak,
+        generation,
+    }
+}
+
+// A verdict by a match, or the refusal.
+fn of_single_home(h: SingleHome) -> CVerdict
+    ensures { λ r. ⌜ verdictWords r ≡ judgedWords 4 (homeAnswer h) ⌝ }
+{
+    match h {
+        SingleHome::Resolved {
+            resolution,
+            peak,
+            generation,
+        } => verdict_of(of_resolution(resolution), peak as u64, generation.0),
+        SingleHome::Invalid(e) => verdict_of(of_refusal(e), 0, 0),
+        SingleHome::Damaged => verdict_of(answer_of(19, 0, 0), 0, 0),
+        SingleHome::OutShort(needed) => verdict_of(answer_of(21, needed as u64, 0), 0, 0),
+    }
+}
+
+// The verdict on the list that a match through the snapshot writes over the first places of the output, or why not.
+#[no_mangle]
+pub extern "C" fn router_resolve_single_home(
+    snapshot: CSnapshot,
+    area: &[u32],
+    subject: &[u8],
+    out: &mut [u32],
+) -> CVerdict
+    ensures { λ r. ⌜ (verdictWords r ≡ judgedWords 4 ((resolveSingleHome (snapshotOf snapshot) (now (area .entry)) (now (subject .entry)) (now (out .entry))) .says)) × (now (out .exit) ≡ (resolveSingleHome (snapshotOf snapshot) (now (area .entry)) (now (subject .entry)) (now (out .entry))) .out) ⌝ }
+{
+    let standing = snapshot_of(snapshot);
+    of_single_home(binding::resolve_single_home(standing, area, subject, out))
+}
+
+// A verdict by a resolve, or the refusal.
+fn of_cached(h: CachedSingleHome) -> CAnswer
+    ensures { λ r. ⌜ wordsOf r ≡ judgedWords 3 (cachedAnswer h) ⌝ }
+{
+    match h {
+        CachedSingleHome::Resolved(resolution) => of_resolution(resolution),
+        CachedSingleHome::Invalid(e) => of_refusal(e),
+        CachedSingleHome::CacheShort => answer_of(17, 0, 0),
+        CachedSingleHome::BadSlot => answer_of(18, 0, 0),
+        CachedSingleHome::Damaged => answer_of(19, 0, 0),
+        CachedSingleHome::OutShort(needed) => answer_of(21, needed as u64, 0),
+    }
+}
+
+fn of_cached_resolution(h: CachedResolution) -> CResolved
+    ensures { λ r. ⌜ resolvedWords r ≡ judgedWords 3 (cachedAnswer (h .answer)) ++ cacheNumbers (h .cache) ⌝ }
+{
+    let answer = h.answer;
+    let cache = h.cache;
+    with_cache(of_cached(answer), cache)
+}
+
+// The verdict on the list that a resolve hands back, or why not; then the cache afterwards.
+#[no_mangle]
+pub extern "C" fn router_resolve_single_home_cached(
+    cache: CCache,
+    heads: &mut [u64],
+    keys: &mut [u8],
+    kept: &mut [u32],
+    snapshot: CSnapshot,
+    area: &[u32],
+    subject: &[u8],
+    out: &mut [u32],
+) -> CResolved
+    ensures { λ r. ⌜ (resolvedWords r ≡ judgedWords 3 ((resolveSingleHomeCached (cacheOf cache) (lent (now (heads .entry)) (now (keys .entry)) (now (kept .entry))) (snapshotOf snapshot) (now (area .entry)) (now (subject .entry)) (now (out .entry))) .says) ++ cacheNumbers ((resolveSingleHomeCached (cacheOf cache) (lent (now (heads .entry)) (now (keys .entry)) (now (kept .entry))) (snapshotOf snapshot) (now (area .entry)) (now (subject .entry)) (now (out .entry))) .cache)) × (lent (now (heads .exit)) (now (keys .exit)) (now (kept .exit)) ≡ (resolveSingleHomeCached (cacheOf cache) (lent (now (heads .entry)) (now (keys .entry)) (now (kept .entry))) (snapshotOf snapshot) (now (area .entry)) (now (subject .entry)) (now (out .entry))) .area) × (now (out .exit) ≡ (resolveSingleHomeCached (cacheOf cache) (lent (now (heads .entry)) (now (keys .entry)) (now (kept .entry))) (snapshotOf snapshot) (now (area .entry)) (now (subject .entry)) (now (out .entry))) .out) ⌝ }
+{
+    let own = cache_of(cache);
+    let standing = snapshot_of(snapshot);
+    of_cached_resolution(binding::resolve_single_home_cached(
+        own,
+        heads,
+        keys,
+        kept,
+        standing,
+        area,
+        subject,
+        out,
+    ))
 }

@@ -17,3 +17,5 @@ pub mod SameGrammar
 pub mod SameMatching
 pub mod Sequences
 pub mod Stages
+pub mod Spelled
+pub mod Offences

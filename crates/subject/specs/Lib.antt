@@ -5,8 +5,10 @@ pub mod Utf8
 pub mod Lead
 pub mod Answers
 pub mod Grammar
+pub mod Offending
 pub mod Matching
 pub mod Reading
 pub mod Fnv
+pub mod Spelling
 -- The original's functions, to be read beside its source.
 pub mod Original

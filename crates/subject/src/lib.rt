@@ -7,16 +7,18 @@ ghost use mathlib.Core.Option.{none, some};
 ghost use Prim.Native.Nat.{_+_, _*_, _%_, _^_, _≤_, _<_};
 ghost use lib.Bits.{bitXor};
 ghost use lib.Dec.{eqb};
-ghost use lib.ListN.{length, getD, drop, replicate};
+ghost use lib.ListN.{length, getD, take, drop, replicate};
 ghost use Rattle.subject.specs.Choice.{pick, or};
 ghost use Rattle.subject.specs.Text.{tokens, isStar, isTail, endsInTail, same};
 ghost use Rattle.subject.specs.Utf8.{within, tail, begins, sequence, firstBad};
 ghost use Rattle.subject.specs.Lead.{Leads};
 ghost use Rattle.subject.specs.Answers.{answer, parsed, said, matched, illFormed, illegal, unless, whenAccepted};
 ghost use Rattle.subject.specs.Grammar.{badChars, badToken, check, grammar};
+ghost use Rattle.subject.specs.Offending.{offending, Offends};
 ghost use Rattle.subject.specs.Matching.{matchTokens, matching};
 ghost use Rattle.subject.specs.Reading.{dotFrom, tokenAt, past};
 ghost use Rattle.subject.specs.Fnv.{fnv};
+ghost use Rattle.subject.specs.Spelling.{spell, Bytes};
 
 // The most tokens that a subject or a pattern may have.
 pub const MAX_SUBJECT_DEPTH: usize = 32;
@@ -368,14 +370,38 @@ pub fn is_tail(token: &[u8]) -> bool
     false
 }
 
-// Whether two tokens have the same bytes.
-pub fn same_bytes(a: &[u8], b: &[u8]) -> bool
-    ensures { λ r. ⌜ r ≡ same (now (a .entry)) (now (b .entry)) ⌝ }
+// The number that eight bytes spell, lowest first. It compiles to one read of a word.
+fn eight(b: u8, c: u8, d: u8, e: u8, f: u8, g: u8, h: u8, i: u8) -> u64
+    ensures { λ r. ⌜ r ≡ spell (b ∷ c ∷ d ∷ e ∷ f ∷ g ∷ h ∷ i ∷ []) ⌝ }
 {
-    if a.len() != b.len() {
-        return false;
-    }
-    let mut i = 0;
+    let low = (b as u64) + (c as u64) * 256 + (d as u64) * 65536 + (e as u64) * 16777216;
+    let high = (f as u64) + (g as u64) * 256 + (h as u64) * 65536 + (i as u64) * 16777216;
+    low + high * 4294967296
+}
+
+// The eight bytes from a place on, as a number.
+fn eight_at(s: &[u8], at: usize) -> u64
+    requires { ⌜ at + 8 ≤ length (now s) ⌝ }
+    ensures { λ r. ⌜ (r ≡ spell (take 8 (drop at (now (s .entry))))) × Bytes (take 8 (drop at (now (s .entry)))) ⌝ }
+{
+    eight(
+        s[at],
+        s[at + 1],
+        s[at + 2],
+        s[at + 3],
+        s[at + 4],
+        s[at + 5],
+        s[at + 6],
+        s[at + 7],
+    )
+}
+
+// Whether two texts of one length have the same bytes from a place on.
+fn same_from(a: &[u8], b: &[u8], from: usize) -> bool
+    requires { ⌜ (from ≤ length (now a)) × (length (now a) ≡ length (now b)) ⌝ }
+    ensures { λ r. ⌜ r ≡ same (drop from (now (a .entry))) (drop from (now (b .entry))) ⌝ }
+{
+    let mut i = from;
     while i < a.len() {
         if a[i] != b[i] {
             return false;
@@ -385,28 +411,69 @@ pub fn same_bytes(a: &[u8], b: &[u8]) -> bool
     true
 }
 
+// Whether two tokens have the same bytes: eight at a time, then the rest.
+pub fn same_bytes(a: &[u8], b: &[u8]) -> bool
+    ensures { λ r. ⌜ r ≡ same (now (a .entry)) (now (b .entry)) ⌝ }
+{
+    if a.len() != b.len() {
+        return false;
+    }
+    let mut i = 0;
+    while 8 <= a.len() - i {
+        if eight_at(a, i) != eight_at(b, i) {
+            return false;
+        }
+        i += 8;
+    }
+    same_from(a, b, i)
+}
+
+// Whether a character offends against rule 8 or 9. Most characters are letters, above all that does but one.
+fn offends(b: u8) -> bool
+    ensures { λ r. ⌜ r ≡ offending b ⌝ }
+{
+    if 0x3e < b {
+        return b == 0x7f;
+    }
+    if b < 0x20 {
+        return true;
+    }
+    if b == 0x2a {
+        return true;
+    }
+    b == 0x3e
+}
+
+// The place of the first offending character, or the token's length.
+fn first_offending(token: &[u8]) -> usize
+    ensures { λ r. ⌜ Offends (now (token .entry)) r ⌝ }
+{
+    let mut i = 0;
+    while i < token.len() {
+        if offends(token[i]) {
+            return i;
+        }
+        i += 1;
+    }
+    i
+}
+
 // Rules 8 and 9: the first offending character of a token.
 fn check_chars(token: &[u8], index: usize) -> TokenCheck
     ensures { λ r. ⌜ illegal r ≡ badChars index (now (token .entry)) ⌝ }
 {
-    let mut i = 0;
-    while i < token.len() {
-        let b = token[i];
-        if b < 0x20 {
-            return TokenCheck::Illegal(SubjectError::ControlChar(b, index));
-        }
-        if b == 0x7f {
-            return TokenCheck::Illegal(SubjectError::ControlChar(b, index));
-        }
-        if b == 0x2a {
-            return TokenCheck::Illegal(SubjectError::IllegalChar(b, index));
-        }
-        if b == 0x3e {
-            return TokenCheck::Illegal(SubjectError::IllegalChar(b, index));
-        }
-        i += 1;
+    let i = first_offending(token);
+    if i == token.len() {
+        return TokenCheck::Legal;
     }
-    TokenCheck::Legal
+    let b = token[i];
+    if b == 0x2a {
+        return TokenCheck::Illegal(SubjectError::IllegalChar(b, index));
+    }
+    if b == 0x3e {
+        return TokenCheck::Illegal(SubjectError::IllegalChar(b, index));
+    }
+    TokenCheck::Illegal(SubjectError::ControlChar(b, index))
 }
 
 // A lone wildcard: legal in a pattern, rule 7 in a subject.
