@@ -39,14 +39,19 @@ module _ (heads : List ℕ) (i n : ℕ) (x : Bool) (h : i < n) (e : badFrom head
   bad-here : or (or (ltb 256 (keyLength heads i)) (ltb 16 (targetCount heads i))) (badFrom heads (suc i) (n - suc i)) ≡ x
   bad-here = rw (left-one i n h) at e
 
-  pub long-key : 256 < keyLength heads i → true ≡ x
-  long-key l = rw (lt-ltb 256 (keyLength heads i) l) at bad-here
+  pub bad-slot : or (ltb 256 (keyLength heads i)) (ltb 16 (targetCount heads i)) ≡ true → true ≡ x
+  bad-slot q = rw q at bad-here
 
-  pub many-targets : keyLength heads i ≤ 256 → 16 < targetCount heads i → true ≡ x
-  many-targets l m = rw (le-ltb 256 (keyLength heads i) l, lt-ltb 16 (targetCount heads i) m) at bad-here
+  pub good-slot : or (ltb 256 (keyLength heads i)) (ltb 16 (targetCount heads i)) ≡ false → (j : ℕ) → j ≡ i + 1 → badFrom heads j (n - j) ≡ x
+  good-slot q j k = rw (k, add-one) (rw q at bad-here)
 
-  pub good-slot : keyLength heads i ≤ 256 → targetCount heads i ≤ 16 → badFrom heads (i + 1) (n - (i + 1)) ≡ x
-  good-slot l m = rw add-one (rw (le-ltb 256 (keyLength heads i) l, le-ltb 16 (targetCount heads i) m) at bad-here)
+-- whether slot i is bad
+module _ (heads : List ℕ) (i : ℕ) where
+  pub long-key : 256 < keyLength heads i → true ≡ or (ltb 256 (keyLength heads i)) (ltb 16 (targetCount heads i))
+  long-key l = rw (lt-ltb 256 (keyLength heads i) l)
+
+  pub short-key : keyLength heads i ≤ 256 → ltb 16 (targetCount heads i) ≡ or (ltb 256 (keyLength heads i)) (ltb 16 (targetCount heads i))
+  short-key l = rw (le-ltb 256 (keyLength heads i) l)
 
 -- slot i keeps the subject, or the scan goes on
 module _ (heads keys subject : List ℕ) (i n : ℕ) (x : Option ℕ) (h : i < n) (e : findFrom heads keys subject i (n - i) ≡ x) where

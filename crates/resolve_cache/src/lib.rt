@@ -5,12 +5,12 @@ ghost use mathlib.Core.List.{[], _∷_};
 ghost use Prim.Native.Nat.{suc, _+_, _*_, _-_, _≤_, _<_, max};
 ghost use lib.Dec.{eqb, ltb};
 ghost use lib.ListN.{length};
-ghost use Rattle.subject.specs.Choice.{pick};
+ghost use Rattle.subject.specs.Choice.{pick, or};
 ghost use Rattle.subject.specs.Text.{same};
 ghost use Rattle.subject.specs.Answers.{answer, parsed, whenAccepted};
 ghost use Rattle.sublist_walk.specs.Walk.{part};
 ghost use Rattle.sublist_snapshot.specs.Snapshot.{wrap};
-ghost use Rattle.resolve_cache.specs.Area.{put, keyLength, keyAt, keep};
+ghost use Rattle.resolve_cache.specs.Area.{put, keyLength, targetCount, keyAt, keep};
 ghost use Rattle.resolve_cache.specs.Cache.{short, badFrom, bad, findFrom, oldestFrom, place, withCapacity, clear, adopt, ticked, hit, walked, grown, handed, resolve};
 ghost use Rattle.resolve_cache.specs.Answers.{cacheAnswer, resolveAnswer, lent, left, listOf};
 ghost use Rattle.resolve_cache.specs.Deciding.{Roomy, Ready, Small, Passes, slotOf, seen, Keeps, walking, Decides};
@@ -227,22 +227,54 @@ fn is_short(capacity: usize, heads: &[u64], keys: &[u8], kept: &[u32]) -> bool
     kept.len() < SLOT_TARGETS * capacity
 }
 
-// 18 on the slots: one of the first n has a key over 256 bytes or over 16 targets.
-fn has_bad_slot(heads: &[u64], n: usize) -> bool
-    requires { ⌜ (n ≤ 1024) × (3 * n ≤ length (now heads)) ⌝ }
-    ensures { λ r. ⌜ r ≡ badFrom (now (heads .entry)) 0 n ⌝ }
+// A slot with a key over 256 bytes or over 16 targets.
+fn slot_is_bad(heads: &[u64], i: usize) -> bool
+    requires { ⌜ (i < 1024) × (3 * i + 3 ≤ length (now heads)) ⌝ }
+    ensures { λ r. ⌜ r ≡ or (ltb 256 (keyLength (now (heads .entry)) i)) (ltb 16 (targetCount (now (heads .entry)) i)) ⌝ }
 {
-    let mut i = 0;
+    if SLOT_BYTES < heads[SLOT_NUMBERS * i] as usize {
+        return true;
+    }
+    SLOT_TARGETS < heads[SLOT_NUMBERS * i + 1] as usize
+}
+
+// 18 on the slots from a place on: one of them is bad.
+fn has_bad_slot_from(heads: &[u64], from: usize, n: usize) -> bool
+    requires { ⌜ (from ≤ n) × (n ≤ 1024) × (3 * n ≤ length (now heads)) ⌝ }
+    ensures { λ r. ⌜ r ≡ badFrom (now (heads .entry)) from (n - from) ⌝ }
+{
+    let mut i = from;
     while i < n {
-        if SLOT_BYTES < heads[SLOT_NUMBERS * i] as usize {
-            return true;
-        }
-        if SLOT_TARGETS < heads[SLOT_NUMBERS * i + 1] as usize {
+        if slot_is_bad(heads, i) {
             return true;
         }
         i += 1;
     }
     false
+}
+
+// 18 on the slots: one of the first n has a key over 256 bytes or over 16 targets. Four at a time, then the rest.
+fn has_bad_slot(heads: &[u64], n: usize) -> bool
+    requires { ⌜ (n ≤ 1024) × (3 * n ≤ length (now heads)) ⌝ }
+    ensures { λ r. ⌜ r ≡ badFrom (now (heads .entry)) 0 n ⌝ }
+{
+    let mut i = 0;
+    while 4 <= n - i {
+        if slot_is_bad(heads, i) {
+            return true;
+        }
+        if slot_is_bad(heads, i + 1) {
+            return true;
+        }
+        if slot_is_bad(heads, i + 2) {
+            return true;
+        }
+        if slot_is_bad(heads, i + 3) {
+            return true;
+        }
+        i += 4;
+    }
+    has_bad_slot_from(heads, i, n)
 }
 
 // 18: capacity is 0, more slots are used than capacity, or a used slot is bad.

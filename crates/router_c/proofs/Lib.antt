@@ -3,4 +3,6 @@ pub mod Answering
 pub mod States
 pub mod Verdicts
 pub mod ByteLaws
+pub mod LongLaws
 pub mod Copies
+pub mod ByteResolves

@@ -48,7 +48,7 @@ ghost use Rattle.resolve_cache.specs.Answers.{cacheAnswer, resolveAnswer, lent}
 ghost use Rattle.binding.specs.Verdict.{singleHome, resolveSingleHome, resolveSingleHomeCached};
 ghost use Rattle.binding.specs.Answers.{homeAnswer, cachedAnswer};
 ghost use Rattle.router_c.specs.Calls.{fill, numbered, answerWords, wordsOf, bit, inWords, listOf, snapshotOf, cacheOf, tableOf, madeWords, storedWords, madeCacheWords, cacheWords, resolvedWords, verdictWords, verdictNumbers, judgedWords};
-ghost use Rattle.router_c.specs.Bytes.{word, wordsIn, bytesOf, onBytes, matchBytes};
+ghost use Rattle.router_c.specs.Bytes.{word, wordsIn, bytesOf, onBytes, matchBytes, longsIn, bytesOfLongs, inNumbers, inBytes, resolveBytes, Gives};
 
 // An answer: 0 or the number of a refusal, then its values, 0 where there is none.
 #[repr(C)]
@@ -954,4 +954,178 @@ pub extern "C" fn router_resolve_single_home_cached(
         subject,
         out,
     ))
+}
+
+// A number from its two words, the low one first.
+fn long_of(low: u32, high: u32) -> u64
+    ensures { λ r. ⌜ r ≡ low + high * 4294967296 ⌝ }
+{
+    (low as u64) + (high as u64) * 4294967296
+}
+
+fn low_byte(w: u64) -> u8
+    ensures { λ r. ⌜ r ≡ w % 256 ⌝ }
+{
+    (w % 256) as u8
+}
+
+// The whole numbers of bytes, eight each, are read into numbers, from the first; the answer is how many they are.
+fn load_longs(bytes: &[u8], longs: &mut [u64]) -> usize
+    requires { ⌜ length (now bytes) ≤ length (now longs) * 8 ⌝ }
+    ensures count { λ r. ⌜ r ≡ length (now (bytes .entry)) / 8 ⌝ }
+    ensures loaded { λ r. ⌜ now (longs .exit) ≡ longsIn (now (bytes .entry)) ++ drop r (now (longs .entry)) ⌝ }
+{
+    let n = bytes.len() / 8;
+    let mut i = 0;
+    while i < n {
+        let j = i * 8;
+        let low = word_of(bytes[j], bytes[j + 1], bytes[j + 2], bytes[j + 3]);
+        let high = word_of(bytes[j + 4], bytes[j + 5], bytes[j + 6], bytes[j + 7]);
+        longs[i] = long_of(low, high);
+        i += 1;
+    }
+    n
+}
+
+// Numbers are written over the first bytes, eight each.
+fn store_longs(longs: &[u64], bytes: &mut [u8])
+    requires { ⌜ length (now longs) * 8 ≤ length (now bytes) ⌝ }
+    ensures { λ _. ⌜ now (bytes .exit) ≡ bytesOfLongs (now (longs .entry)) ++ drop (length (now (longs .entry)) * 8) (now (bytes .entry)) ⌝ }
+{
+    let mut i = 0;
+    while i < longs.len() {
+        let j = i * 8;
+        let w = longs[i];
+        bytes[j] = low_byte(w);
+        bytes[j + 1] = low_byte(w / 256);
+        bytes[j + 2] = low_byte(w / 65536);
+        bytes[j + 3] = low_byte(w / 16777216);
+        bytes[j + 4] = low_byte(w / 4294967296);
+        bytes[j + 5] = low_byte(w / 1099511627776);
+        bytes[j + 6] = low_byte(w / 281474976710656);
+        bytes[j + 7] = low_byte(w / 72057594037927936);
+        i += 1;
+    }
+}
+
+// 99 of four areas.
+fn copies_full(a: usize, b: usize, c: usize, d: usize) -> bool
+    ensures { λ r. ⌜ r ≡ ltb 65536 (a + b + c + d) ⌝ }
+{
+    if copy_full(a, b, c) {
+        return true;
+    }
+    65536 - a - b - c < d
+}
+
+// The resolve on numbers that are copied from the bytes of heads, kept targets and output: an accepted one writes them back.
+fn resolve_copied(
+    cache: ResolveCache,
+    longs: &mut [u64],
+    keys: &mut [u8],
+    kept_words: &mut [u32],
+    snapshot: Snapshot,
+    area_words: &[u32],
+    subject: &[u8],
+    out_words: &mut [u32],
+    heads: &mut [u8],
+    kept: &mut [u8],
+    out: &mut [u8],
+) -> CResolved
+    requires { ⌜ (length (now longs) * 8 ≤ length (now heads)) × (length (now «kept_words») * 4 ≤ length (now kept)) × (length (now «out_words») * 4 ≤ length (now out)) ⌝ }
+    ensures { λ r. ⌜ Gives r (lent (now (heads .exit)) (now (keys .exit)) (now (kept .exit))) (now (out .exit)) (inBytes (resolve cache (lent (now (longs .entry)) (now (keys .entry)) (now («kept_words» .entry))) snapshot (now («area_words» .entry)) (now (subject .entry)) (now («out_words» .entry))) (lent (now (heads .entry)) (now (keys .entry)) (now (kept .entry))) (now (out .entry))) ⌝ }
+{
+    let resolved = cache.resolve(
+        longs,
+        keys,
+        kept_words,
+        snapshot,
+        area_words,
+        subject,
+        out_words,
+    );
+    let told = of_resolved(resolved);
+    if told.number != 0 {
+        return told;
+    }
+    store_longs(longs, heads);
+    store_words(kept_words, kept);
+    store_words(out_words, out);
+    told
+}
+
+// The resolve with the numbers of heads, kept targets, area and output copied from their bytes.
+fn resolve_copies(
+    cache: ResolveCache,
+    heads: &mut [u8],
+    keys: &mut [u8],
+    kept: &mut [u8],
+    snapshot: Snapshot,
+    area: &[u8],
+    subject: &[u8],
+    out: &mut [u8],
+    longs: &mut [u64],
+    kept_words: &mut [u32],
+    area_words: &mut [u32],
+    out_words: &mut [u32],
+) -> CResolved
+    requires { ⌜ (length (now heads) ≤ length (now longs) * 8) × (length (now kept) ≤ length (now «kept_words») * 4) × (length (now area) ≤ length (now «area_words») * 4) × (length (now out) ≤ length (now «out_words») * 4) ⌝ }
+    ensures { λ r. ⌜ Gives r (lent (now (heads .exit)) (now (keys .exit)) (now (kept .exit))) (now (out .exit)) (inBytes (resolve cache (inNumbers (lent (now (heads .entry)) (now (keys .entry)) (now (kept .entry)))) snapshot (wordsIn (now (area .entry))) (now (subject .entry)) (wordsIn (now (out .entry)))) (lent (now (heads .entry)) (now (keys .entry)) (now (kept .entry))) (now (out .entry))) ⌝ }
+{
+    let n = load_longs(heads, longs);
+    let m = load_words(kept, kept_words);
+    let l = load_words(area, area_words);
+    let k = load_words(out, out_words);
+    resolve_copied(
+        cache,
+        &mut longs[..n],
+        keys,
+        &mut kept_words[..m],
+        snapshot,
+        &area_words[..l],
+        subject,
+        &mut out_words[..k],
+        heads,
+        kept,
+        out,
+    )
+}
+
+// The resolve on areas of bytes, lowest byte of a number first, eight bytes a number of `heads` and four a word of the others; whole ones count. 99 if heads, kept, area and out are together more than 65,536 bytes.
+#[no_mangle]
+pub extern "C" fn router_resolve_bytes(
+    cache: CCache,
+    heads: &mut [u8],
+    keys: &mut [u8],
+    kept: &mut [u8],
+    snapshot: CSnapshot,
+    area: &[u8],
+    subject: &[u8],
+    out: &mut [u8],
+) -> CResolved
+    ensures { λ r. ⌜ (resolvedWords r ≡ numbered 3 ((resolveBytes (cacheOf cache) (lent (now (heads .entry)) (now (keys .entry)) (now (kept .entry))) (snapshotOf snapshot) (now (area .entry)) (now (subject .entry)) (now (out .entry))) .says) ++ cacheNumbers ((resolveBytes (cacheOf cache) (lent (now (heads .entry)) (now (keys .entry)) (now (kept .entry))) (snapshotOf snapshot) (now (area .entry)) (now (subject .entry)) (now (out .entry))) .cache)) × (lent (now (heads .exit)) (now (keys .exit)) (now (kept .exit)) ≡ (resolveBytes (cacheOf cache) (lent (now (heads .entry)) (now (keys .entry)) (now (kept .entry))) (snapshotOf snapshot) (now (area .entry)) (now (subject .entry)) (now (out .entry))) .area) × (now (out .exit) ≡ (resolveBytes (cacheOf cache) (lent (now (heads .entry)) (now (keys .entry)) (now (kept .entry))) (snapshotOf snapshot) (now (area .entry)) (now (subject .entry)) (now (out .entry))) .out) ⌝ }
+{
+    let own = cache_of(cache);
+    if copies_full(heads.len(), kept.len(), area.len(), out.len()) {
+        return with_cache(answer_of(99, 0, 0), own);
+    }
+    let standing = snapshot_of(snapshot);
+    let mut longs = [0u64; 8192];
+    let mut kept_words = [0u32; 16384];
+    let mut area_words = [0u32; 16384];
+    let mut out_words = [0u32; 16384];
+    resolve_copies(
+        own,
+        heads,
+        keys,
+        kept,
+        standing,
+        area,
+        subject,
+        out,
+        &mut longs,
+        &mut kept_words,
+        &mut area_words,
+        &mut out_words,
+    )
 }

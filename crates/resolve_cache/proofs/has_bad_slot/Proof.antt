@@ -1,11 +1,11 @@
 -- `resolve_cache::has_bad_slot` meets its contract. The loop's invariant: one of the slots from `i` on is bad exactly if one of all is. Assumes nothing.
-use Prim.Native.Nat.{_*_, _-_, _≤_}
+use Prim.Native.Nat.{_+_, _*_, _-_, _≤_}
 use native.Mathlib.Omega.{arith}
-use mathlib.Core.Path.{_≡_, ap}
+use mathlib.Core.Path.{_≡_, sym, _∙_, ap}
 use lib.ListN.{length}
 use borrow.Author.Needs.{needs}
 use Rattle.resolve_cache.specs.Cache.{badFrom}
-use Rattle.resolve_cache.proofs.Scans.{bad-end, long-key, many-targets, good-slot}
+use Rattle.resolve_cache.proofs.Scans.{bad-slot, good-slot}
 use Rattle.resolve_cache.proofs.has_bad_slot.Statement.{statement}
 use Rattle.resolve_cache.proofs.has_bad_slot.Tie as tie
 
@@ -15,41 +15,81 @@ Inv-loop heads n i₀ i = (i ≤ n) × (n ≤ 1024) × (3 * n ≤ length heads) 
 abbrev μ-loop : tie.MeasureT-loop
 μ-loop heads n i₀ i = n - i
 
+-- behind each slot that is good
+good-1 : (c : tie.Else1 Inv-loop μ-loop) → let l = c .before .before .before in let a = l .before .before .args in badFrom (a .heads .now) (l .loop .i + 1) (a .n - (l .loop .i + 1)) ≡ badFrom (a .heads .now) 0 (a .n)
+good-1 c =
+    let l = c .before .before .before in
+    let a = l .before .before .args in
+    good-slot (a .heads .now) (l .loop .i) (a .n) (badFrom (a .heads .now) 0 (a .n)) (omega arith) (l .loop .inv .3) (sym (c .before .slot-is-bad .ensures) ∙ c .if1 .left) (l .loop .i + 1) (omega arith)
+
+good-2 : (c : tie.Else2 Inv-loop μ-loop) → let l = c .before .before .before .before .before in let a = l .before .before .args in badFrom (a .heads .now) (l .loop .i + 2) (a .n - (l .loop .i + 2)) ≡ badFrom (a .heads .now) 0 (a .n)
+good-2 c =
+    let l = c .before .before .before .before .before in
+    let a = l .before .before .args in
+    good-slot (a .heads .now) (l .loop .i + 1) (a .n) (badFrom (a .heads .now) 0 (a .n)) (omega arith) (good-1 (c .before .before)) (sym (c .before .slot-is-bad2 .ensures) ∙ c .if2 .left) (l .loop .i + 2) (omega arith)
+
+good-3 : (c : tie.Else3 Inv-loop μ-loop) → let l = c .before .before .before .before .before .before .before in let a = l .before .before .args in badFrom (a .heads .now) (l .loop .i + 3) (a .n - (l .loop .i + 3)) ≡ badFrom (a .heads .now) 0 (a .n)
+good-3 c =
+    let l = c .before .before .before .before .before .before .before in
+    let a = l .before .before .args in
+    good-slot (a .heads .now) (l .loop .i + 2) (a .n) (badFrom (a .heads .now) 0 (a .n)) (omega arith) (good-2 (c .before .before)) (sym (c .before .slot-is-bad3 .ensures) ∙ c .if3 .left) (l .loop .i + 3) (omega arith)
+
+good-4 : (c : tie.Else4 Inv-loop μ-loop) → let l = c .before .before .before .before .before .before .before .before .before in let a = l .before .before .args in badFrom (a .heads .now) (l .loop .i + 4) (a .n - (l .loop .i + 4)) ≡ badFrom (a .heads .now) 0 (a .n)
+good-4 c =
+    let l = c .before .before .before .before .before .before .before .before .before in
+    let a = l .before .before .args in
+    good-slot (a .heads .now) (l .loop .i + 3) (a .n) (badFrom (a .heads .now) 0 (a .n)) (omega arith) (good-3 (c .before .before)) (sym (c .before .slot-is-bad4 .ensures) ∙ c .if4 .left) (l .loop .i + 4) (omega arith)
+
 loop-holds : tie.Need-loop-holds Inv-loop μ-loop
-loop-holds c = (omega arith, omega arith, omega arith, ap (badFrom (c .args .heads .now) 0) (let e : c .args .n - 0 ≡ c .args .n = omega arith in e))
+loop-holds c = (omega arith, omega arith, omega arith, ap (badFrom (c .before .args .heads .now) 0) (let e : c .before .args .n - 0 ≡ c .before .args .n = omega arith in e))
 
-mul-if1 : tie.Need-mul-if1 Inv-loop μ-loop
-mul-if1 c = search needs
+sub-loop : tie.Need-sub-loop Inv-loop μ-loop
+sub-loop c = search needs
 
-mul-if1-2 : tie.Need-mul-if1-2 Inv-loop μ-loop
-mul-if1-2 c = search needs
-
-shared-slice-read-if1 : tie.Need-shared-slice-read-if1 Inv-loop μ-loop
-shared-slice-read-if1 c = search needs
+slot-is-bad-requires : tie.Need-slot-is-bad-requires Inv-loop μ-loop
+slot-is-bad-requires c κs = (omega arith, omega arith)
 
 returns : tie.Need-returns Inv-loop μ-loop
 returns c =
-    let a = c .before .before .before .before .args in
-    let l = c .before .before .before .loop in
-    long-key (a .heads .now) (l .i) (a .n) (badFrom (a .heads .now) 0 (a .n)) (omega arith) (l .inv .3) (c .if1 .taken)
+    let l = c .before .before .before in
+    let a = l .before .before .args in
+    bad-slot (a .heads .now) (l .loop .i) (a .n) (badFrom (a .heads .now) 0 (a .n)) (omega arith) (l .loop .inv .3) (sym (c .before .slot-is-bad .ensures) ∙ c .if1 .taken)
 
-mul-if2 : tie.Need-mul-if2 Inv-loop μ-loop
-mul-if2 c = search needs
+add-slot-is-bad : tie.Need-add-slot-is-bad Inv-loop μ-loop
+add-slot-is-bad c = search needs
 
-add-if2 : tie.Need-add-if2 Inv-loop μ-loop
-add-if2 c = search needs
-
-mul-if2-2 : tie.Need-mul-if2-2 Inv-loop μ-loop
-mul-if2-2 c = search needs
-
-shared-slice-read-if2 : tie.Need-shared-slice-read-if2 Inv-loop μ-loop
-shared-slice-read-if2 c = search needs
+slot-is-bad-requires-2 : tie.Need-slot-is-bad-requires-2 Inv-loop μ-loop
+slot-is-bad-requires-2 c κs = (omega arith, omega arith)
 
 returns-2 : tie.Need-returns-2 Inv-loop μ-loop
 returns-2 c =
-    let a = c .before .before .before .before .before .before .args in
-    let l = c .before .before .before .before .before .loop in
-    many-targets (a .heads .now) (l .i) (a .n) (badFrom (a .heads .now) 0 (a .n)) (omega arith) (l .inv .3) (c .before .before .if1 .left) (c .if2 .taken)
+    let l = c .before .before .before .before .before in
+    let a = l .before .before .args in
+    bad-slot (a .heads .now) (l .loop .i + 1) (a .n) (badFrom (a .heads .now) 0 (a .n)) (omega arith) (good-1 (c .before .before)) (sym (c .before .slot-is-bad2 .ensures) ∙ c .if2 .taken)
+
+add-slot-is-bad-2 : tie.Need-add-slot-is-bad-2 Inv-loop μ-loop
+add-slot-is-bad-2 c = search needs
+
+slot-is-bad-requires-3 : tie.Need-slot-is-bad-requires-3 Inv-loop μ-loop
+slot-is-bad-requires-3 c κs = (omega arith, omega arith)
+
+returns-3 : tie.Need-returns-3 Inv-loop μ-loop
+returns-3 c =
+    let l = c .before .before .before .before .before .before .before in
+    let a = l .before .before .args in
+    bad-slot (a .heads .now) (l .loop .i + 2) (a .n) (badFrom (a .heads .now) 0 (a .n)) (omega arith) (good-2 (c .before .before)) (sym (c .before .slot-is-bad3 .ensures) ∙ c .if3 .taken)
+
+add-slot-is-bad-3 : tie.Need-add-slot-is-bad-3 Inv-loop μ-loop
+add-slot-is-bad-3 c = search needs
+
+slot-is-bad-requires-4 : tie.Need-slot-is-bad-requires-4 Inv-loop μ-loop
+slot-is-bad-requires-4 c κs = (omega arith, omega arith)
+
+returns-4 : tie.Need-returns-4 Inv-loop μ-loop
+returns-4 c =
+    let l = c .before .before .before .before .before .before .before .before .before in
+    let a = l .before .before .args in
+    bad-slot (a .heads .now) (l .loop .i + 3) (a .n) (badFrom (a .heads .now) 0 (a .n)) (omega arith) (good-3 (c .before .before)) (sym (c .before .slot-is-bad4 .ensures) ∙ c .if4 .taken)
 
 add-i : tie.Need-add-i Inv-loop μ-loop
 add-i c = search needs
@@ -58,15 +98,13 @@ loop-less : tie.Need-loop-less Inv-loop μ-loop
 loop-less c = search needs
 
 loop-again : tie.Need-loop-again Inv-loop μ-loop
-loop-again c =
-    let a = c .before .before .before .before .before .before .args in
-    let l = c .before .before .before .before .before .loop in
-    (omega arith, omega arith, omega arith, good-slot (a .heads .now) (l .i) (a .n) (badFrom (a .heads .now) 0 (a .n)) (omega arith) (l .inv .3) (c .before .before .if1 .left) (c .if2 .left))
+loop-again c = (omega arith, omega arith, omega arith, good-4 c)
 
-returns-3 : tie.Need-returns-3 Inv-loop μ-loop
-returns-3 c =
-    let a = c .before .before .args in
-    bad-end (a .heads .now) (c .before .loop .i) (a .n) (omega arith) (badFrom (a .heads .now) 0 (a .n)) (c .before .loop .inv .3)
+has-bad-slot-from-requires : tie.Need-has-bad-slot-from-requires Inv-loop μ-loop
+has-bad-slot-from-requires c κs = (omega arith, omega arith, omega arith)
+
+returns-5 : tie.Need-returns-5 Inv-loop μ-loop
+returns-5 c = c .has-bad-slot-from .ensures ∙ c .before .before .loop .inv .3
 
 pub has-bad-slot-spec : {M : Type 1} → statement M
 has-bad-slot-spec =
@@ -75,16 +113,20 @@ has-bad-slot-spec =
     Inv-loop
     μ-loop
     loop-holds
-    mul-if1
-    mul-if1-2
-    shared-slice-read-if1
+    sub-loop
+    slot-is-bad-requires
     returns
-    mul-if2
-    add-if2
-    mul-if2-2
-    shared-slice-read-if2
+    add-slot-is-bad
+    slot-is-bad-requires-2
     returns-2
+    add-slot-is-bad-2
+    slot-is-bad-requires-3
+    returns-3
+    add-slot-is-bad-3
+    slot-is-bad-requires-4
+    returns-4
     add-i
     loop-less
     loop-again
-    returns-3)
+    has-bad-slot-from-requires
+    returns-5)

@@ -1,12 +1,12 @@
 -- `router_c::of_cached` meets its contract: in each case the words are those of the answer.
-use Rattle.router_c.proofs.Verdicts.{turned, alone}
-use Rattle.router_c.proofs.States.{three}
-use Rattle.router_c.specs.Calls.{judgedWords}
-use Rattle.binding.specs.Answers.{cachedAnswer}
-use Rattle.binding.specs.declared.CachedSingleHome.{CachedSingleHome}
-use Rattle.subject.specs.Answers.{refusal}
 use mathlib.Core.Path.{sym, ap, _∙_}
 use borrow.Author.Needs.{needs}
+use Rattle.subject.specs.Answers.{refusal}
+use Rattle.binding.specs.Answers.{cachedAnswer}
+use Rattle.binding.specs.declared.CachedSingleHome.{CachedSingleHome}
+use Rattle.router_c.specs.Calls.{judgedWords}
+use Rattle.router_c.proofs.Verdicts.{turned, alone}
+use Rattle.router_c.proofs.States.{three}
 use Rattle.router_c.proofs.of_cached.Statement.{statement}
 use Rattle.router_c.proofs.of_cached.Tie as tie
 

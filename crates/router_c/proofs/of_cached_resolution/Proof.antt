@@ -1,9 +1,9 @@
 -- `router_c::of_cached_resolution` meets its contract: the words of the answer, then those of the cache.
-use Rattle.resolve_cache.specs.Cache.{cacheNumbers}
-use Prim.Native.Nat.{ℕ}
-use mathlib.Core.List.{List, _++_}
 use mathlib.Core.Path.{ap, _∙_}
+use mathlib.Core.List.{List, _++_}
+use Prim.Native.Nat.{ℕ}
 use borrow.Author.Needs.{needs}
+use Rattle.resolve_cache.specs.Cache.{cacheNumbers}
 use Rattle.router_c.proofs.of_cached_resolution.Statement.{statement}
 use Rattle.router_c.proofs.of_cached_resolution.Tie as tie
 

@@ -1,11 +1,11 @@
 -- `router_c::of_resolved` meets its contract: the words of the answer, then those of the cache.
-use Rattle.router_c.proofs.States.{three}
+use mathlib.Core.Path.{ap, _∙_}
+use mathlib.Core.List.{List, _++_}
+use Prim.Native.Nat.{ℕ}
+use borrow.Author.Needs.{needs}
 use Rattle.resolve_cache.specs.Answers.{resolveAnswer}
 use Rattle.resolve_cache.specs.Cache.{cacheNumbers}
-use Prim.Native.Nat.{ℕ}
-use mathlib.Core.List.{List, _++_}
-use mathlib.Core.Path.{ap, _∙_}
-use borrow.Author.Needs.{needs}
+use Rattle.router_c.proofs.States.{three}
 use Rattle.router_c.proofs.of_resolved.Statement.{statement}
 use Rattle.router_c.proofs.of_resolved.Tie as tie
 

@@ -1,10 +1,10 @@
 -- `router_c::of_single_home` meets its contract: in each case the words are those of the answer.
-use Rattle.router_c.proofs.Verdicts.{verdict-four, one-four, refused-four}
-use Rattle.router_c.specs.Calls.{judgedWords}
-use Rattle.binding.specs.Answers.{homeAnswer}
-use Rattle.binding.specs.declared.SingleHome.{SingleHome}
 use mathlib.Core.Path.{sym, ap, _∙_}
 use borrow.Author.Needs.{needs}
+use Rattle.binding.specs.Answers.{homeAnswer}
+use Rattle.binding.specs.declared.SingleHome.{SingleHome}
+use Rattle.router_c.specs.Calls.{judgedWords}
+use Rattle.router_c.proofs.Verdicts.{verdict-four, one-four, refused-four}
 use Rattle.router_c.proofs.of_single_home.Statement.{statement}
 use Rattle.router_c.proofs.of_single_home.Tie as tie
 

@@ -1,8 +1,8 @@
 -- `router_c::router_cache_clear` meets its contract: the words of what `ResolveCache::clear` leaves.
-use Rattle.resolve_cache.specs.Cache.{clear, cacheNumbers}
-use Rattle.resolve_cache.specs.declared.ResolveCache.{ResolveCache}
 use mathlib.Core.Path.{ap, _∙_}
 use borrow.Author.Needs.{needs}
+use Rattle.resolve_cache.specs.Cache.{clear, cacheNumbers}
+use Rattle.resolve_cache.specs.declared.ResolveCache.{ResolveCache}
 use Rattle.router_c.proofs.router_cache_clear.Statement.{statement}
 use Rattle.router_c.proofs.router_cache_clear.Tie as tie
 

@@ -1,8 +1,8 @@
 -- `router_c::router_cache_new` meets its contract: the words of what `resolve_cache::with_capacity` answers.
-use Rattle.router_c.specs.Calls.{numbered}
-use Rattle.subject.specs.Answers.{Answer}
 use mathlib.Core.Path.{ap, _∙_}
 use borrow.Author.Needs.{needs}
+use Rattle.subject.specs.Answers.{Answer}
+use Rattle.router_c.specs.Calls.{numbered}
 use Rattle.router_c.proofs.router_cache_new.Statement.{statement}
 use Rattle.router_c.proofs.router_cache_new.Tie as tie
 

@@ -1,8 +1,8 @@
 -- `router_c::router_resolve` meets its contract: the words of what `ResolveCache::resolve` answers, and what it leaves.
-use Rattle.router_c.proofs.States.{told-resolved, same-resolve}
-use Rattle.resolve_cache.specs.Answers.{lent}
 use mathlib.Core.Path.{_∙_}
 use borrow.Author.Needs.{needs}
+use Rattle.resolve_cache.specs.Answers.{lent}
+use Rattle.router_c.proofs.States.{told-resolved, same-resolve}
 use Rattle.router_c.proofs.router_resolve.Statement.{statement}
 use Rattle.router_c.proofs.router_resolve.Tie as tie
 

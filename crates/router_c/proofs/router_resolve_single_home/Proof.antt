@@ -1,9 +1,9 @@
 -- `router_c::router_resolve_single_home` meets its contract: the words of what `binding::resolve_single_home` answers, and the output that it leaves.
-use Rattle.router_c.proofs.Verdicts.{told-home}
-use Rattle.binding.specs.Verdict.{resolveSingleHome}
-use Rattle.sublist_snapshot.specs.declared.Snapshot.{Snapshot}
 use mathlib.Core.Path.{ap, _∙_}
 use borrow.Author.Needs.{needs}
+use Rattle.sublist_snapshot.specs.declared.Snapshot.{Snapshot}
+use Rattle.binding.specs.Verdict.{resolveSingleHome}
+use Rattle.router_c.proofs.Verdicts.{told-home}
 use Rattle.router_c.proofs.router_resolve_single_home.Statement.{statement}
 use Rattle.router_c.proofs.router_resolve_single_home.Tie as tie
 

@@ -1,8 +1,8 @@
 -- `router_c::router_resolve_single_home_cached` meets its contract: the words of what `binding::resolve_single_home_cached` answers, and what it leaves.
-use Rattle.router_c.proofs.Verdicts.{told-cached, same-verdict}
-use Rattle.resolve_cache.specs.Answers.{lent}
 use mathlib.Core.Path.{_∙_}
 use borrow.Author.Needs.{needs}
+use Rattle.resolve_cache.specs.Answers.{lent}
+use Rattle.router_c.proofs.Verdicts.{told-cached, same-verdict}
 use Rattle.router_c.proofs.router_resolve_single_home_cached.Statement.{statement}
 use Rattle.router_c.proofs.router_resolve_single_home_cached.Tie as tie
 

@@ -1,9 +1,9 @@
 -- `router_c::router_single_home` meets its contract: the words of what `binding::single_home` answers.
-use Rattle.router_c.specs.Calls.{fill, verdictNumbers}
-use Rattle.binding.specs.declared.Resolution.{Resolution}
-use mathlib.Core.List.{_∷_}
 use mathlib.Core.Path.{ap, _∙_}
+use mathlib.Core.List.{_∷_}
 use borrow.Author.Needs.{needs}
+use Rattle.binding.specs.declared.Resolution.{Resolution}
+use Rattle.router_c.specs.Calls.{fill, verdictNumbers}
 use Rattle.router_c.proofs.router_single_home.Statement.{statement}
 use Rattle.router_c.proofs.router_single_home.Tie as tie
 

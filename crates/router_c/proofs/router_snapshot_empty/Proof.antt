@@ -1,6 +1,6 @@
 -- `router_c::router_snapshot_empty` meets its contract: the words of what `Snapshot::empty` answers, and the area that it leaves.
-use Rattle.router_c.proofs.States.{told-made}
 use borrow.Author.Needs.{needs}
+use Rattle.router_c.proofs.States.{told-made}
 use Rattle.router_c.proofs.router_snapshot_empty.Statement.{statement}
 use Rattle.router_c.proofs.router_snapshot_empty.Tie as tie
 

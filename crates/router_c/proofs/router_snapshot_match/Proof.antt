@@ -1,10 +1,10 @@
 -- `router_c::router_snapshot_match` meets its contract: the words of what `Snapshot::match_into` answers, and the output that it leaves.
-use Rattle.router_c.proofs.Answering.{told-words}
+use mathlib.Core.Path.{ap, _∙_}
+use borrow.Author.Needs.{needs}
 use Rattle.sublist_snapshot.specs.Answers.{snapshotAnswer}
 use Rattle.sublist_snapshot.specs.Snapshot.{matchIn}
 use Rattle.sublist_snapshot.specs.declared.Snapshot.{Snapshot}
-use mathlib.Core.Path.{ap, _∙_}
-use borrow.Author.Needs.{needs}
+use Rattle.router_c.proofs.Answering.{told-words}
 use Rattle.router_c.proofs.router_snapshot_match.Statement.{statement}
 use Rattle.router_c.proofs.router_snapshot_match.Tie as tie
 

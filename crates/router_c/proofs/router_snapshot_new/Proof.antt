@@ -1,6 +1,6 @@
 -- `router_c::router_snapshot_new` meets its contract: the words of what `Snapshot::new` answers, and the area that it leaves.
-use Rattle.router_c.proofs.States.{told-made}
 use borrow.Author.Needs.{needs}
+use Rattle.router_c.proofs.States.{told-made}
 use Rattle.router_c.proofs.router_snapshot_new.Statement.{statement}
 use Rattle.router_c.proofs.router_snapshot_new.Tie as tie
 

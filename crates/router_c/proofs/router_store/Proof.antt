@@ -1,10 +1,10 @@
 -- `router_c::router_store` meets its contract: the words of what `Snapshot::store` answers, and the area that it leaves.
-use Rattle.router_c.proofs.States.{told-stored}
-use Rattle.router_c.specs.Calls.{tableOf}
-use Rattle.sublist_snapshot.specs.Snapshot.{storeIn}
-use Rattle.sublist_snapshot.specs.declared.Snapshot.{Snapshot}
 use mathlib.Core.Path.{ap, _∙_}
 use borrow.Author.Needs.{needs}
+use Rattle.sublist_snapshot.specs.Snapshot.{storeIn}
+use Rattle.sublist_snapshot.specs.declared.Snapshot.{Snapshot}
+use Rattle.router_c.specs.Calls.{tableOf}
+use Rattle.router_c.proofs.States.{told-stored}
 use Rattle.router_c.proofs.router_store.Statement.{statement}
 use Rattle.router_c.proofs.router_store.Tie as tie
 
