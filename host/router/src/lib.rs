@@ -6,7 +6,7 @@
 //!
 //! The names are those of the original: `parse`, `matches`, `insert`, `build`, `store`, `match_into`, `resolve`, `single_home`.
 //!
-//! ```no_run
+//! ```
 //! use router::{List, Refusal, Resolution, Snapshot};
 //!
 //! fn main() -> Result<(), Refusal> {
@@ -27,11 +27,13 @@
 //! }
 //! ```
 #![no_std]
+#![deny(unsafe_code)]
 
 mod answers;
 pub mod binding;
 pub mod bytes;
 pub mod limits;
+#[allow(unsafe_code)]
 pub mod raw;
 pub mod refusal;
 pub mod resolve_cache;

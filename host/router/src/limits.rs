@@ -67,3 +67,18 @@ pub const fn kept_words(slots: usize) -> usize {
 pub const fn cache_bytes(slots: usize) -> usize {
     slots.saturating_mul(8 * SLOT_NUMBERS + SLOT_BYTES + 4 * SLOT_TARGETS)
 }
+
+#[cfg(test)]
+mod tests {
+    use super::*;
+
+    #[test]
+    fn sizes() {
+        assert_eq!(MAX_NODES, 65537);
+        assert_eq!(table_words(5, 5), 85);
+        assert_eq!((head_numbers(2), key_bytes(2), kept_words(2)), (6, 512, 32));
+        assert_eq!(cache_bytes(1), 344);
+        assert_eq!(cache_bytes(MAX_CAPACITY), 352_256);
+        assert_eq!(table_words(usize::MAX, 1), usize::MAX);
+    }
+}

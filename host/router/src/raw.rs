@@ -104,6 +104,24 @@ pub struct Verdict {
     pub generation: u64,
 }
 
+/// So many 64-bit numbers.
+const fn numbers(count: usize) -> usize {
+    count * size_of::<u64>()
+}
+
+// The structs are those of the C calls, which have 64-bit numbers and nothing between them.
+const _: () = {
+    assert!(size_of::<usize>() == size_of::<u64>());
+    assert!(size_of::<Answer>() == numbers(4));
+    assert!(size_of::<SnapshotState>() == numbers(4));
+    assert!(size_of::<CacheState>() == numbers(5));
+    assert!(size_of::<MadeSnapshot>() == numbers(5));
+    assert!(size_of::<Stored>() == numbers(6));
+    assert!(size_of::<MadeCache>() == numbers(6));
+    assert!(size_of::<Resolved>() == numbers(9));
+    assert!(size_of::<Verdict>() == numbers(5));
+};
+
 // SAFETY, for each call below: it reads the slices that it is passed, writes those that it is lent as `mut`, and touches nothing else. They are lent to it until it returns.
 
 /// A text as a literal subject: its token count, or why it is refused.

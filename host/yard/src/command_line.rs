@@ -1,0 +1,259 @@
+//! The command line: a command, its arguments and its options.
+use crate::trouble::Trouble;
+use std::ffi::OsString;
+
+/// What the options ask for.
+#[derive(Debug, Default, PartialEq, Eq)]
+pub struct Options {
+    pub json: bool,
+    pub verbose: bool,
+    pub depth: Option<usize>,
+    pub under: Option<Vec<u8>>,
+}
+
+/// What is to be done.
+#[derive(Debug, PartialEq, Eq)]
+pub enum Command {
+    Help,
+    Version,
+    Check {
+        list: OsString,
+    },
+    Route {
+        list: OsString,
+        subjects: Vec<Vec<u8>>,
+    },
+    Tree {
+        list: OsString,
+    },
+    Parse {
+        texts: Vec<Vec<u8>>,
+    },
+    Matches {
+        pattern: Vec<u8>,
+        subject: Vec<u8>,
+    },
+    Texts {
+        file: OsString,
+    },
+}
+
+/// A command with its options.
+#[derive(Debug, PartialEq, Eq)]
+pub struct Request {
+    pub command: Command,
+    pub options: Options,
+}
+
+fn usage(fault: String) -> Trouble {
+    Trouble::Usage(fault)
+}
+
+/// The words that are no options, the options, and whether help or the version is asked for.
+#[derive(Default)]
+struct Sorted {
+    words: Vec<OsString>,
+    options: Options,
+    help: bool,
+    version: bool,
+}
+
+/// The value behind an option.
+fn value(
+    option: &str,
+    arguments: &mut impl Iterator<Item = OsString>,
+) -> Result<OsString, Trouble> {
+    arguments
+        .next()
+        .ok_or_else(|| usage(format!("{option} needs a value behind it")))
+}
+
+fn depth_of(value: &OsString) -> Result<usize, Trouble> {
+    let number = value.to_str().and_then(|word| word.parse().ok());
+    number.ok_or_else(|| usage("--depth needs a number behind it, as --depth 3".into()))
+}
+
+fn sort(mut arguments: impl Iterator<Item = OsString>) -> Result<Sorted, Trouble> {
+    let mut sorted = Sorted::default();
+    while let Some(argument) = arguments.next() {
+        match argument.to_str() {
+            Some("--json") => sorted.options.json = true,
+            Some("--verbose" | "-v") => sorted.options.verbose = true,
+            Some("--depth") => {
+                sorted.options.depth = Some(depth_of(&value("--depth", &mut arguments)?)?);
+            }
+            Some("--under") => {
+                sorted.options.under = Some(bytes(value("--under", &mut arguments)?));
+            }
+            Some("--help" | "-h") => sorted.help = true,
+            Some("--version" | "-V") => sorted.version = true,
+            Some("--") => sorted.words.extend(arguments.by_ref()),
+            Some(option) if option.len() > 1 && option.starts_with('-') => {
+                return Err(usage(format!("there is no option {option}")));
+            }
+            _ => sorted.words.push(argument),
+        }
+    }
+    Ok(sorted)
+}
+
+fn bytes(word: OsString) -> Vec<u8> {
+    word.into_encoded_bytes()
+}
+
+/// The one word that a command takes.
+fn one(command: &str, what: &str, mut words: Vec<OsString>) -> Result<OsString, Trouble> {
+    match (words.pop(), words.is_empty()) {
+        (Some(word), true) => Ok(word),
+        _ => Err(usage(format!("yard {command} takes one {what}"))),
+    }
+}
+
+fn route(mut words: Vec<OsString>) -> Result<Command, Trouble> {
+    if words.is_empty() {
+        return Err(usage("yard route takes a list, and subjects".into()));
+    }
+    let list = words.remove(0);
+    if words.is_empty() && list == "-" {
+        return Err(usage(
+            "the list and the subjects cannot both come from standard input".into(),
+        ));
+    }
+    let subjects = words.into_iter().map(bytes).collect();
+    Ok(Command::Route { list, subjects })
+}
+
+fn matches(words: Vec<OsString>) -> Result<Command, Trouble> {
+    match <[OsString; 2]>::try_from(words) {
+        Ok([pattern, subject]) => Ok(Command::Matches {
+            pattern: bytes(pattern),
+            subject: bytes(subject),
+        }),
+        Err(_) => Err(usage("yard matches takes a pattern and a subject".into())),
+    }
+}
+
+fn parse(words: Vec<OsString>) -> Result<Command, Trouble> {
+    if words.is_empty() {
+        return Err(usage("yard parse takes one text or more".into()));
+    }
+    let texts = words.into_iter().map(bytes).collect();
+    Ok(Command::Parse { texts })
+}
+
+fn command(name: &OsString, words: Vec<OsString>) -> Result<Command, Trouble> {
+    match name.to_str() {
+        Some("check") => one("check", "list", words).map(|list| Command::Check { list }),
+        Some("route") => route(words),
+        Some("tree") => one("tree", "list", words).map(|list| Command::Tree { list }),
+        Some("parse") => parse(words),
+        Some("matches") => matches(words),
+        Some("texts") => one("texts", "file", words).map(|file| Command::Texts { file }),
+        Some("help") => Ok(Command::Help),
+        _ => Err(usage(format!(
+            "there is no command {}",
+            name.to_string_lossy()
+        ))),
+    }
+}
+
+/// Refuses an option that the command does not have.
+fn check_options(command: &Command, options: &Options) -> Result<(), Trouble> {
+    let tree = matches!(command, Command::Tree { .. });
+    let route = matches!(command, Command::Route { .. });
+    let texts = matches!(command, Command::Texts { .. });
+    let misplaced = [
+        (options.depth.is_some() && !tree, "--depth is for yard tree"),
+        (options.under.is_some() && !tree, "--under is for yard tree"),
+        (
+            options.verbose && !tree && !route,
+            "--verbose is for yard route and yard tree",
+        ),
+        (options.json && texts, "yard texts has no --json"),
+    ];
+    match misplaced.iter().find(|(wrong, _)| *wrong) {
+        Some((_, fault)) => Err(usage((*fault).into())),
+        None => Ok(()),
+    }
+}
+
+/// The request that the arguments behind the program's name make.
+pub fn read(arguments: impl Iterator<Item = OsString>) -> Result<Request, Trouble> {
+    let mut sorted = sort(arguments)?;
+    let command = if sorted.help {
+        Command::Help
+    } else if sorted.version {
+        Command::Version
+    } else if sorted.words.is_empty() {
+        return Err(usage("no command is given".into()));
+    } else {
+        let name = sorted.words.remove(0);
+        let command = command(&name, sorted.words)?;
+        check_options(&command, &sorted.options)?;
+        command
+    };
+    Ok(Request {
+        command,
+        options: sorted.options,
+    })
+}
+
+#[cfg(test)]
+mod tests {
+    use super::*;
+
+    fn request(words: &[&str]) -> Option<Request> {
+        read(words.iter().map(OsString::from)).ok()
+    }
+
+    #[test]
+    fn commands() {
+        let check = request(&["check", "--json", "a.list"]);
+        assert_eq!(
+            check,
+            Some(Request {
+                command: Command::Check {
+                    list: "a.list".into()
+                },
+                options: Options {
+                    json: true,
+                    ..Options::default()
+                },
+            })
+        );
+        let route = request(&["route", "-", "--", "--json"]).map(|request| request.command);
+        assert_eq!(
+            route,
+            Some(Command::Route {
+                list: "-".into(),
+                subjects: vec![b"--json".to_vec()]
+            })
+        );
+        let deep = request(&["tree", "l", "--depth", "3", "--under", "a.b"]);
+        let options = deep.map(|request| (request.options.depth, request.options.under));
+        assert_eq!(options, Some((Some(3), Some(b"a.b".to_vec()))));
+    }
+
+    #[test]
+    fn wrong_lines() {
+        for words in [
+            &[][..],
+            &["check"],
+            &["check", "a", "b"],
+            &["rout", "a"],
+            &["route"],
+            &["route", "-"],
+            &["tree", "a", "--depth"],
+            &["tree", "a", "--depth", "x"],
+            &["check", "a", "--jason"],
+            &["matches", "a"],
+            &["parse"],
+            &["check", "a", "--depth", "3"],
+            &["route", "a", "b", "--under", "c"],
+            &["check", "a", "-v"],
+            &["texts", "a", "--json"],
+        ] {
+            assert_eq!(request(words), None, "{words:?}");
+        }
+    }
+}

@@ -1,0 +1,46 @@
+//! What `yard --help` prints.
+
+pub const TEXT: &str = "\
+yard: checks a yard's binding list, routes orders by it, and shows why.
+
+  yard check LIST                     is the list accepted, and how much room is left
+  yard route LIST [SUBJECT..]         where each order goes, and which lines of the list say so
+  yard tree LIST                      the table that is built from the list, drawn as a tree
+  yard parse TEXT..                   what each text is as a pattern and as a subject
+  yard matches PATTERN SUBJECT        whether one pattern matches one subject
+  yard texts FILE                     both, for all lines `pattern TEXT` and `subject TEXT` of a file
+
+LIST is a file, or - for standard input. Where no SUBJECT is given, subjects are read from standard
+input, one a line; there, empty lines and lines that begin with # are passed over.
+
+Options
+  --json          answers for programs: one JSON object a line (not for texts)
+  --verbose, -v   route: the peak, and every matching line of an ambiguous order; tree: node numbers
+  --depth N       tree: no more than N tokens deep
+  --under TOKENS  tree: only what lies below these tokens, as yard.north or yard.*
+  --              what follows is no option, even where it begins with a dash
+  --help, -h      this text
+  --version, -V   the version
+
+A binding list has one line for each binding: a pattern, blanks, and a target (a panel's number,
+0 to 4294967295). The target is the last word, so a pattern may have blanks inside. A line that
+begins with # is a comment, and so is what stands behind a target from a # on; empty lines are
+passed over.
+
+    # points of the north yard
+    yard.north.points.>           12
+    yard.*.signal.*.aspect        40     # all signals, to the signaller
+
+Tokens stand between dots. In a pattern, * stands for one token, > at the end for one or more.
+Verdicts: `Routed to N`, exactly one line matches; `NoStream`, none does, and the order goes nowhere;
+`Ambiguous`, several do, and the order goes nowhere. Matching lines are shown in the router's order:
+those ending in > first, the shorter first; then the others; a name before *; equal patterns as listed.
+
+Refusals are shown with the number and name of the router's rules. Lines, tokens and bytes are
+counted from 1.
+
+Exit status
+  0   the list is accepted; every subject is routed; every text is accepted; the pattern matches
+  1   some subject is not routed (NoStream, Ambiguous or refused); a text is refused; no match
+  2   the list is refused, the command line is wrong, or a file cannot be read or written
+";

@@ -1,0 +1,67 @@
+//! How the command ends: its exit status, and what keeps it from its work.
+use std::fmt;
+use std::io::{self, ErrorKind, Write};
+use std::process::ExitCode;
+
+/// The exit status of a command that did its work.
+#[derive(Clone, Copy, Debug, PartialEq, Eq)]
+pub enum Status {
+    /// 0: the list is accepted, every subject is routed.
+    Good,
+    /// 1: some subject is not routed, some text is refused, or the pattern does not match.
+    NotAll,
+    /// 2: the list is refused.
+    Refused,
+}
+
+impl From<Status> for ExitCode {
+    fn from(status: Status) -> ExitCode {
+        ExitCode::from(match status {
+            Status::Good => 0,
+            Status::NotAll => 1,
+            Status::Refused => 2,
+        })
+    }
+}
+
+/// What keeps the command from its work; its exit status is 2.
+#[derive(Debug)]
+pub enum Trouble {
+    /// The command line is wrong in this way.
+    Usage(String),
+    /// A file cannot be used, for this reason.
+    File { name: String, reason: String },
+    /// The output cannot be written.
+    Output(io::Error),
+}
+
+impl From<io::Error> for Trouble {
+    fn from(e: io::Error) -> Trouble {
+        Trouble::Output(e)
+    }
+}
+
+impl fmt::Display for Trouble {
+    fn fmt(&self, f: &mut fmt::Formatter<'_>) -> fmt::Result {
+        match self {
+            Trouble::Usage(fault) => write!(f, "{fault}\n`yard --help` shows the commands."),
+            Trouble::File { name, reason } => write!(f, "{name}: {reason}"),
+            Trouble::Output(e) => write!(f, "the output cannot be written: {e}"),
+        }
+    }
+}
+
+impl Trouble {
+    /// Says the trouble on standard error. A reader that has enough and closed its pipe is not told.
+    pub fn tell(&self) {
+        match self {
+            Trouble::Output(e) if e.kind() == ErrorKind::BrokenPipe => {}
+            _ => complain(&format!("yard: {self}\n")),
+        }
+    }
+}
+
+/// Writes to standard error; where that is closed there is nobody to tell.
+pub fn complain(text: &str) {
+    let _ = io::stderr().write_all(text.as_bytes());
+}

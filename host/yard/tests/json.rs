@@ -1,0 +1,273 @@
+//! What `--json` writes is JSON, and says what the text says.
+mod common;
+
+use common::{list_of, yard, yard_with_input};
+use std::collections::BTreeMap;
+use std::iter::Peekable;
+use std::str::Chars;
+
+/// A JSON value. Numbers are whole.
+#[derive(Clone, Debug, PartialEq)]
+enum Value {
+    Flag(bool),
+    Number(u64),
+    Text(String),
+    Array(Vec<Value>),
+    Object(BTreeMap<String, Value>),
+}
+
+impl Value {
+    fn at(&self, name: &str) -> &Value {
+        match self {
+            Value::Object(fields) => fields.get(name).unwrap_or_else(|| panic!("no {name}")),
+            _ => panic!("{self:?} is no object"),
+        }
+    }
+
+    fn text(&self) -> &str {
+        match self {
+            Value::Text(text) => text,
+            _ => panic!("{self:?} is no text"),
+        }
+    }
+
+    fn number(&self) -> u64 {
+        match self {
+            Value::Number(number) => *number,
+            _ => panic!("{self:?} is no number"),
+        }
+    }
+
+    fn array(&self) -> &[Value] {
+        match self {
+            Value::Array(values) => values,
+            _ => panic!("{self:?} is no array"),
+        }
+    }
+
+    /// One field of each object in an array.
+    fn numbers(&self, name: &str) -> Vec<u64> {
+        self.array()
+            .iter()
+            .map(|value| value.at(name).number())
+            .collect()
+    }
+}
+
+/// A reader of JSON that takes nothing but JSON, without blanks.
+struct Reader<'a> {
+    left: Peekable<Chars<'a>>,
+}
+
+impl Reader<'_> {
+    fn expect(&mut self, text: &str) {
+        for character in text.chars() {
+            assert_eq!(self.left.next(), Some(character));
+        }
+    }
+
+    fn string(&mut self) -> String {
+        self.expect("\"");
+        let mut out = String::new();
+        loop {
+            match self.left.next().expect("a string ends") {
+                '"' => return out,
+                '\\' => out.push(self.escaped()),
+                c => {
+                    assert!(u32::from(c) >= 0x20, "a control character in a string");
+                    out.push(c);
+                }
+            }
+        }
+    }
+
+    fn escaped(&mut self) -> char {
+        match self.left.next().expect("an escape ends") {
+            'n' => '\n',
+            'r' => '\r',
+            't' => '\t',
+            'u' => {
+                let digits: String = self.left.by_ref().take(4).collect();
+                let number = u32::from_str_radix(&digits, 16).expect("four digits");
+                char::from_u32(number).expect("a character")
+            }
+            c @ ('"' | '\\' | '/') => c,
+            c => panic!("\\{c} is no escape"),
+        }
+    }
+
+    /// What stands between brackets, with commas between.
+    fn several(&mut self, end: char, mut one: impl FnMut(&mut Self)) {
+        self.left.next();
+        if self.left.next_if_eq(&end).is_some() {
+            return;
+        }
+        loop {
+            one(self);
+            match self.left.next() {
+                Some(',') => {}
+                Some(c) if c == end => return,
+                other => panic!("{other:?} in place of a comma or {end}"),
+            }
+        }
+    }
+
+    fn value(&mut self) -> Value {
+        match self.left.peek().copied().expect("a value") {
+            '"' => Value::Text(self.string()),
+            't' => {
+                self.expect("true");
+                Value::Flag(true)
+            }
+            'f' => {
+                self.expect("false");
+                Value::Flag(false)
+            }
+            '[' => {
+                let mut values = Vec::new();
+                self.several(']', |reader| values.push(reader.value()));
+                Value::Array(values)
+            }
+            '{' => {
+                let mut fields = BTreeMap::new();
+                self.several('}', |reader| {
+                    let name = reader.string();
+                    reader.expect(":");
+                    let old = fields.insert(name, reader.value());
+                    assert_eq!(old, None, "a name stands twice");
+                });
+                Value::Object(fields)
+            }
+            _ => {
+                let mut digits = String::new();
+                while let Some(digit) = self.left.next_if(char::is_ascii_digit) {
+                    digits.push(digit);
+                }
+                Value::Number(digits.parse().expect("a number"))
+            }
+        }
+    }
+}
+
+/// The value of each line.
+fn read(out: &str) -> Vec<Value> {
+    assert!(out.ends_with('\n'));
+    let line = |line: &str| {
+        let mut reader = Reader {
+            left: line.chars().peekable(),
+        };
+        let value = reader.value();
+        assert_eq!(reader.left.next(), None, "something follows the value");
+        value
+    };
+    out.lines().map(line).collect()
+}
+
+const ROW: &str = "a.b 1\n> 2\n*.b 3\na.> 4\na.b 5\n";
+
+#[test]
+fn check() {
+    let list = list_of(ROW);
+    let said = yard(&["check", "--json", list.name()]);
+    let told = &read(&said.out)[0];
+    assert_eq!(told.at("accepted"), &Value::Flag(true));
+    assert_eq!(told.at("entries").at("used").number(), 5);
+    assert_eq!(told.at("nodes").at("used").number(), 5);
+    assert_eq!(told.at("worst_case").at("used").number(), 2);
+    assert_eq!(told.at("worst_case").at("limit").number(), 1024);
+    let repeated = &told.at("repeated").array()[0];
+    assert_eq!(
+        repeated.at("lines"),
+        &Value::Array(vec![Value::Number(1), Value::Number(5)])
+    );
+}
+
+#[test]
+fn a_refused_list() {
+    let list = list_of("a..b 1\nc\n");
+    for command in ["check", "tree"] {
+        let said = yard(&[command, "--json", list.name()]);
+        assert_eq!((said.status, said.err.as_str()), (2, ""));
+        let told = &read(&said.out)[0];
+        assert_eq!(told.at("accepted"), &Value::Flag(false));
+        assert_eq!(told.at("faults").numbers("line"), [1, 2]);
+        let refusal = told.at("faults").array()[0].at("refusal");
+        assert_eq!(refusal.at("number").number(), 6);
+        assert_eq!(refusal.at("name").text(), "EmptyToken");
+    }
+}
+
+#[test]
+fn route() {
+    let list = list_of(ROW);
+    let said = yard(&[
+        "route",
+        "--json",
+        list.name(),
+        "a.b",
+        "c",
+        "c.",
+        "\"\\\u{85}",
+    ]);
+    assert_eq!(said.status, 1);
+    let told = read(&said.out);
+    assert_eq!(told[0].at("verdict").text(), "Ambiguous");
+    assert_eq!(told[0].at("lines").numbers("line"), [2, 4, 1, 5, 3]);
+    assert_eq!(told[0].at("lines").numbers("target"), [2, 4, 1, 5, 3]);
+    assert_eq!(told[0].at("peak").number(), 2);
+    assert_eq!(told[1].at("verdict").text(), "Routed");
+    assert_eq!(told[1].at("target").number(), 2);
+    assert_eq!(told[2].at("verdict").text(), "Refused");
+    assert_eq!(told[2].at("refusal").at("name").text(), "EmptyToken");
+    assert_eq!(told[3].at("subject").text(), "\"\\\u{85}");
+}
+
+#[test]
+fn any_bytes() {
+    let list = list_of(ROW);
+    let mut input: Vec<u8> = (0..=255).filter(|&byte| byte != b'\n').collect();
+    input.extend_from_slice(b"\nx\xc0\x80\n");
+    let said = yard_with_input(&["route", "--json", list.name()], &input);
+    let told = read(&said.out);
+    assert_eq!(told.len(), 2);
+    let digits = told[0].at("subject_hex").text();
+    assert_eq!((digits.len(), &digits[..6]), (2 * 255, "000102"));
+    assert_eq!(told[1].at("subject_hex").text(), "78c080");
+    assert_eq!(told[1].at("refusal").at("name").text(), "NotUtf8");
+}
+
+#[test]
+fn a_cut_line() {
+    let list = list_of(ROW);
+    let said = yard_with_input(&["route", "--json", list.name()], &[b'a'; 5000]);
+    let told = &read(&said.out)[0];
+    assert_eq!(told.at("cut"), &Value::Flag(true));
+    assert_eq!(told.at("refusal").at("name").text(), "TooLong");
+}
+
+#[test]
+fn tree() {
+    let list = list_of(ROW);
+    let told = &read(&yard(&["tree", "--json", list.name()]).out)[0];
+    assert_eq!(told.at("nodes").number(), 5);
+    let root = told.at("root");
+    assert_eq!(root.at("tail").numbers("line"), [2]);
+    let [a, star] = root.at("children").array() else {
+        panic!("two children");
+    };
+    assert_eq!((a.at("token").text(), star.at("token").text()), ("a", "*"));
+    assert_eq!(a.at("tail").numbers("target"), [4]);
+    assert_eq!(
+        a.at("children").array()[0].at("exact").numbers("line"),
+        [1, 5]
+    );
+}
+
+#[test]
+fn texts() {
+    let told = read(&yard(&["parse", "--json", "a.*"]).out);
+    assert_eq!(told[0].at("pattern").at("tokens").number(), 2);
+    assert_eq!(told[0].at("subject").at("refusal").at("number").number(), 7);
+    let told = read(&yard(&["matches", "--json", "a.*", "a.b"]).out);
+    assert_eq!(told[0].at("matches"), &Value::Flag(true));
+}
