@@ -1,4 +1,5 @@
 //! The comparisons themselves, and their count.
+use crate::seen::Seen;
 use compare::lists::Line;
 use compare::original;
 use router::raw::{self, Answer};
@@ -8,14 +9,24 @@ use std::process::{exit, ExitCode};
 use std::time::Duration;
 
 /// The numbers that the inputs must bring up.
-const NUMBERS: [u64; 20] = [
-    0, 1, 2, 3, 4, 5, 6, 7, 8, 9, 10, 11, 12, 13, 14, 15, 16, 19, 21, 99,
+const NUMBERS: [u64; 23] = [
+    0, 1, 2, 3, 4, 5, 6, 7, 8, 9, 10, 11, 12, 13, 14, 15, 16, 17, 18, 19, 20, 21, 99,
 ];
+
+/// What comparisons are about.
+#[derive(Clone, Copy)]
+pub enum Family {
+    Texts,
+    Tables,
+    Calls,
+}
 
 #[derive(Default)]
 pub struct Tally {
     total: u64,
     reported: u64,
+    /// Comparisons of each family.
+    families: [u64; 3],
     answers: BTreeMap<u64, u64>,
     /// Matches of a pattern that were answered by no and by yes.
     verdicts: [u64; 2],
@@ -24,11 +35,18 @@ pub struct Tally {
     pub matches: u64,
     pub largest_table: u64,
     pub largest_peak: u64,
+    /// Calls on snapshots and caches.
+    pub seen: Seen,
+    /// The random part that is being made, and the seed of its turn.
+    turn: Option<(&'static str, u64)>,
 }
 
 /// Says what differs and ends the run.
-fn differs<T: Debug>(call: &str, inputs: &str, ours: T, theirs: T) -> ! {
+fn differs<T: Debug>(turn: Option<(&str, u64)>, call: &str, inputs: &str, ours: T, theirs: T) -> ! {
     eprintln!("{call} differs\n{inputs}  the router: {ours:?}\n  as it should be: {theirs:?}");
+    if let Some((part, seed)) = turn {
+        eprintln!("this turn again: compare --part {part} --turn {seed}");
+    }
     exit(1)
 }
 
@@ -61,7 +79,7 @@ impl Tally {
         theirs: T,
     ) {
         if ours != theirs {
-            differs(call, &inputs(), ours, theirs);
+            differs(self.turn, call, &inputs(), ours, theirs);
         }
         self.total += 1;
     }
@@ -82,6 +100,27 @@ impl Tally {
     /// An answer came up.
     pub fn met(&mut self, answer: Answer) {
         *self.answers.entry(answer.number).or_default() += 1;
+    }
+
+    /// A call on a snapshot or a cache gave an answer of this number.
+    pub fn called(&mut self, call: &'static str, number: u64) {
+        *self.answers.entry(number).or_default() += 1;
+        self.seen.answer(call, number);
+    }
+
+    /// A turn of a random part begins. A difference in it is reported with its seed.
+    pub fn begin(&mut self, part: &'static str, seed: u64) {
+        self.turn = Some((part, seed));
+    }
+
+    /// The turns are over.
+    pub fn end(&mut self) {
+        self.turn = None;
+    }
+
+    /// The comparisons so far.
+    pub fn total(&self) -> u64 {
+        self.total
     }
 
     /// A text as a subject and as a pattern, its depth, and whether it ends in `>`.
@@ -118,13 +157,24 @@ impl Tally {
     }
 
     /// Says how many comparisons were made since the last report.
-    pub fn report(&mut self, part: &str) {
-        println!("{:>12} comparisons: {part}", self.total - self.reported);
+    pub fn report(&mut self, family: Family, part: &str) {
+        println!("{:>12} comparisons: {part}", self.count(family));
+    }
+
+    /// How many comparisons were made since this was last asked. They belong to this family.
+    pub fn count(&mut self, family: Family) -> u64 {
+        let count = self.total - self.reported;
+        self.families[family as usize] += count;
         self.reported = self.total;
+        count
     }
 
     /// Says what was met in all. An answer that never came up means that the inputs miss a rule, and fails.
     pub fn close(&self, took: Duration) -> ExitCode {
+        let [texts, tables, calls] = self.families;
+        println!("{texts:>12} comparisons of texts and matches of patterns in all");
+        println!("{tables:>12} comparisons of lists, tables and matches on them in all");
+        println!("{calls:>12} comparisons of calls on snapshots and caches in all");
         let [no, yes] = self.verdicts;
         println!("answers by number: {:?}", self.answers);
         println!("matches of a pattern: {yes} yes, {no} no");
@@ -132,11 +182,15 @@ impl Tally {
             "tables: {} built, {} matches on them; the largest has {} nodes, the largest peak is {}",
             self.builds, self.matches, self.largest_table, self.largest_peak
         );
-        let all_met = NUMBERS
-            .iter()
-            .all(|number| self.answers.contains_key(number));
-        if !all_met || self.verdicts.contains(&0) {
-            eprintln!("an answer never came up");
+        let mut missing = self.seen.report();
+        let never = |number: &&u64| !self.answers.contains_key(number);
+        let numbers = NUMBERS.iter().filter(never);
+        missing.extend(numbers.map(|number| format!("an answer by {number}")));
+        if self.verdicts.contains(&0) {
+            missing.push("a pattern that matches, or one that does not".into());
+        }
+        if !missing.is_empty() {
+            eprintln!("never came up: {}", missing.join("; "));
             return ExitCode::FAILURE;
         }
         let seconds = took.as_secs_f64();
