@@ -11,11 +11,36 @@ pub struct Lent {
     pub target_words: Vec<u32>,
 }
 
+/// The same where the words lie elsewhere.
+#[derive(Clone, Copy, Debug)]
+pub struct Words<'a> {
+    pub nodes: usize,
+    pub targets: usize,
+    pub node_words: &'a [u32],
+    pub target_words: &'a [u32],
+}
+
 /// A number that points outside, a chain that does not end, or a frontier that is too large: refusal 19.
 #[derive(Debug, PartialEq, Eq)]
 pub struct Damaged;
 
 impl Lent {
+    pub fn words(&self) -> Words<'_> {
+        Words {
+            nodes: self.nodes,
+            targets: self.targets,
+            node_words: &self.node_words,
+            target_words: &self.target_words,
+        }
+    }
+
+    /// The list and the peak of an accepted subject.
+    pub fn walk(&self, subject: &[u8]) -> Result<(Vec<u32>, usize), Damaged> {
+        self.words().walk(subject)
+    }
+}
+
+impl Words<'_> {
     /// Whether there is a node, and neither count exceeds its area.
     pub fn counts_fit(&self) -> bool {
         0 < self.nodes

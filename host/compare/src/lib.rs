@@ -2,6 +2,10 @@
 pub mod area;
 pub mod lists;
 pub mod model;
+pub mod model_binding;
+pub mod model_cache;
+pub mod model_snapshot;
 pub mod original;
+pub mod original_calls;
 pub mod random;
 pub mod table;

@@ -66,6 +66,11 @@ fn subject_of(bytes: &[u8]) -> Result<Subject<'_>, Refusal> {
     Ok(Subject::parse_literal(text_of(bytes)?)?)
 }
 
+/// A subject of the original, or the refusal.
+pub fn subject(bytes: &[u8]) -> Result<Subject<'_>, Answer> {
+    subject_of(bytes).map_err(Answer::from)
+}
+
 fn pattern_of(bytes: &[u8]) -> Result<SubjectPattern<'_>, Refusal> {
     Ok(SubjectPattern::parse(text_of(bytes)?)?)
 }

@@ -29,6 +29,14 @@ impl Random {
         self.below(turns) == 0
     }
 
+    /// A seed for another generator, whose draws have nothing to do with the next ones of this: Steele, Lea and Flood's mixing of a draw.
+    pub fn seed(&mut self) -> u64 {
+        let mut seed = self.draw();
+        seed = (seed ^ (seed >> 30)).wrapping_mul(0xbf58_476d_1ce4_e5b9);
+        seed = (seed ^ (seed >> 27)).wrapping_mul(0x94d0_49bb_1331_11eb);
+        seed ^ (seed >> 31)
+    }
+
     /// One of the choices.
     pub fn pick<'a, T: ?Sized>(&mut self, choices: &[&'a T]) -> &'a T {
         choices[self.below(choices.len())]

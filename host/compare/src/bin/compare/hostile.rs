@@ -144,7 +144,7 @@ fn changed(random: &mut Random, table: &Lent) -> Lent {
 }
 
 /// Words that are all drawn, the links among few nodes and the hashes of few tokens: chains that meet, and that go round.
-fn drawn(random: &mut Random) -> Lent {
+pub fn drawn(random: &mut Random) -> Lent {
     let nodes = 1 + random.below(9);
     let targets = random.below(9);
     let mut table = Lent {
@@ -219,29 +219,32 @@ fn byte_limit(tally: &mut Tally, random: &mut Random) {
     }
 }
 
-pub fn run(tally: &mut Tally, random: &mut Random) {
-    for _ in 0..600 {
-        let count = 1 + random.below(60);
-        let lines = lists::yard(random, count);
-        let Some(sides) = tables::build(tally, random, &lines) else {
-            continue;
-        };
-        for _ in 0..60 {
-            let table = changed(random, sides.table());
-            compare(tally, random, &table);
-        }
-    }
-    tally.report("built tables with words and counts changed");
-    for _ in 0..100_000 {
-        let mut table = drawn(random);
-        if random.once_in(8) {
-            table.nodes = any_count(random, table.nodes);
-            table.targets = any_count(random, table.targets);
-        }
-        compare(tally, random, &table);
-    }
-    tally.report("tables with drawn words");
+/// Frontiers and areas at their limits.
+pub fn limits(tally: &mut Tally, random: &mut Random) {
     wide(tally, random);
     byte_limit(tally, random);
     tally.report("frontiers around 1,024 that no build makes, and areas around 64 KiB");
+}
+
+/// One turn: the table of a list, changed again and again.
+pub fn changed_turn(tally: &mut Tally, random: &mut Random) {
+    let count = 1 + random.below(60);
+    let lines = lists::yard(random, count);
+    let Some(sides) = tables::build(tally, random, &lines) else {
+        return;
+    };
+    for _ in 0..60 {
+        let table = changed(random, sides.table());
+        compare(tally, random, &table);
+    }
+}
+
+/// One turn: a table of drawn words, once in a while with other counts.
+pub fn drawn_turn(tally: &mut Tally, random: &mut Random) {
+    let mut table = drawn(random);
+    if random.once_in(8) {
+        table.nodes = any_count(random, table.nodes);
+        table.targets = any_count(random, table.targets);
+    }
+    compare(tally, random, &table);
 }

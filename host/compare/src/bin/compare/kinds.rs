@@ -12,7 +12,7 @@ fn text(tokens: &[&str]) -> Vec<u8> {
 }
 
 /// A pattern of up to `most` tokens out of some words, with `*` once in `stars` tokens and `>` once in `tails` patterns.
-fn pattern(
+pub fn pattern(
     random: &mut Random,
     words: &[&str],
     most: usize,
@@ -54,7 +54,7 @@ fn subject_for(random: &mut Random, words: &[&str], pattern: &[u8]) -> Vec<u8> {
 }
 
 /// A subject near a list: one that matches some line, or one that has another word somewhere, a token more or one less.
-fn subject_near(random: &mut Random, words: &[&str], lines: &[Line]) -> Vec<u8> {
+pub fn subject_near(random: &mut Random, words: &[&str], lines: &[Line]) -> Vec<u8> {
     let word = random.pick(words).as_bytes();
     if lines.is_empty() {
         return word.to_vec();
@@ -82,7 +82,7 @@ fn subject_near(random: &mut Random, words: &[&str], lines: &[Line]) -> Vec<u8> 
 }
 
 /// Lines with targets, many of them equal.
-fn with_targets(random: &mut Random, patterns: Vec<Vec<u8>>) -> Vec<Line> {
+pub fn with_targets(random: &mut Random, patterns: Vec<Vec<u8>>) -> Vec<Line> {
     let most = 1 + random.below(2 * patterns.len() + 1);
     let target = |pattern| (pattern, random.below(most) as u32);
     patterns.into_iter().map(target).collect()
@@ -111,14 +111,14 @@ fn run(
 }
 
 /// A yard's list of 200 to 1,600 patterns.
-pub fn yard(tally: &mut Tally, random: &mut Random) {
+fn yard(tally: &mut Tally, random: &mut Random) {
     let count = 200 + random.below(1401);
     let lines = lists::yard(random, count);
     run(tally, random, &lines, &WORDS, 400, lists::yard_subject);
 }
 
 /// Nearly all runs of ten tokens out of `a` and `*`, and some that go on: a worst case around 1,024.
-pub fn near_limit(tally: &mut Tally, random: &mut Random) {
+fn near_limit(tally: &mut Tally, random: &mut Random) {
     let mut patterns: Vec<Vec<u8>> = (0..1024).map(run_of_ten).collect();
     let missing = random.below(3) * random.below(4);
     for _ in 0..missing {
@@ -147,7 +147,7 @@ pub fn run_of_ten(number: usize) -> Vec<u8> {
 }
 
 /// Short patterns with many wildcards, up to as many as a list may have.
-pub fn dense(tally: &mut Tally, random: &mut Random) {
+fn dense(tally: &mut Tally, random: &mut Random) {
     let count = 1 + random.below(MAX_ENTRIES);
     let most = 3 + random.below(8);
     let patterns = (0..count)
@@ -160,7 +160,7 @@ pub fn dense(tally: &mut Tally, random: &mut Random) {
 }
 
 /// Patterns of up to 32 tokens, many of which begin alike.
-pub fn deep(tally: &mut Tally, random: &mut Random) {
+fn deep(tally: &mut Tally, random: &mut Random) {
     let mut patterns: Vec<Vec<u8>> = Vec::new();
     for _ in 0..2 + random.below(300) {
         let mut new = pattern(random, &WORDS, 32, 5, 6);
@@ -184,7 +184,7 @@ pub fn deep(tally: &mut Tally, random: &mut Random) {
 }
 
 /// Few patterns, each many times.
-pub fn equal_lines(tally: &mut Tally, random: &mut Random) {
+fn equal_lines(tally: &mut Tally, random: &mut Random) {
     let few: Vec<Vec<u8>> = (0..1 + random.below(6))
         .map(|_| pattern(random, &["a", "b"], 3, 3, 4))
         .collect();
@@ -199,7 +199,7 @@ pub fn equal_lines(tally: &mut Tally, random: &mut Random) {
 }
 
 /// Tokens of one hash, with and without a common end.
-pub fn clashing(tally: &mut Tally, random: &mut Random) {
+fn clashing(tally: &mut Tally, random: &mut Random) {
     let [one, other] = CLASH;
     let longer = CLASH.map(|token| format!("{token}-17"));
     let words = [one, other, &longer[0], &longer[1], "a"];
@@ -213,7 +213,7 @@ pub fn clashing(tally: &mut Tally, random: &mut Random) {
 }
 
 /// Few patterns of few tokens, also by the definitions without a tree, with subjects that are refused among the others.
-pub fn small(tally: &mut Tally, random: &mut Random) {
+fn small(tally: &mut Tally, random: &mut Random) {
     let patterns = (0..random.below(13))
         .map(|_| pattern(random, &["a", "b"], 4, 3, 4))
         .collect();
@@ -234,4 +234,28 @@ pub fn small(tally: &mut Tally, random: &mut Random) {
         9,
     );
     sides.subject(tally, random, &odd);
+}
+
+/// A kind of list, how often it is drawn in a turn, and once in how many turns.
+type Kind = (fn(&mut Tally, &mut Random), u64, usize);
+
+const KINDS: [Kind; 7] = [
+    (yard, 1, 1),
+    (near_limit, 1, 5),
+    (dense, 1, 4),
+    (deep, 1, 2),
+    (equal_lines, 1, 4),
+    (clashing, 4, 1),
+    (small, 40, 1),
+];
+
+/// One turn: lists of all kinds.
+pub fn turn(tally: &mut Tally, random: &mut Random) {
+    for (kind, times, turns) in KINDS {
+        if random.once_in(turns) {
+            for _ in 0..times {
+                kind(tally, random);
+            }
+        }
+    }
 }

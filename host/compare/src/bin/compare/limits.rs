@@ -28,7 +28,7 @@ fn fill(tally: &mut Tally, places: usize, odd: usize) {
 }
 
 /// A text store that is full to the byte, one byte short, or has fewer bytes than are said to be in use.
-fn tight_store(tally: &mut Tally, random: &mut Random) {
+pub fn tight_store(tally: &mut Tally, random: &mut Random) {
     let pattern = random
         .pick(&["a", "ab.*", "yard.>", ">", "a..b", ""])
         .as_bytes()
@@ -53,16 +53,13 @@ fn tight_store(tally: &mut Tally, random: &mut Random) {
     tables::insert(tally, entries, used, &mut words, &mut store, &line);
 }
 
-pub fn inserts(tally: &mut Tally, random: &mut Random) {
+pub fn inserts(tally: &mut Tally) {
     for places in [0, 1, 2, 2046, 2047, 2048, 2049] {
         for odd in 0..3 {
             fill(tally, places, odd);
         }
     }
-    for _ in 0..200_000 {
-        tight_store(tally, random);
-    }
-    tally.report("inserts at the limits of list and text store");
+    tally.report("inserts until the list is full");
 }
 
 /// What build should say of numbers and bytes that may be any, by the scope document's words.
@@ -138,7 +135,7 @@ fn build_any(
 }
 
 /// A short list with some number or byte changed, and areas that may be short.
-fn damaged_list(tally: &mut Tally, random: &mut Random) {
+pub fn damaged_list(tally: &mut Tally, random: &mut Random) {
     let count = random_count(random);
     let lines = lists::yard(random, count);
     let (mut words, mut store) = packed(&lines);
@@ -191,10 +188,7 @@ fn long_lists(tally: &mut Tally, random: &mut Random) {
 
 pub fn builds(tally: &mut Tally, random: &mut Random) {
     long_lists(tally, random);
-    for _ in 0..100_000 {
-        damaged_list(tally, random);
-    }
-    tally.report("builds of damaged lists, into areas that may be short");
+    tally.report("builds of lists of about 2,048 entries");
 }
 
 /// All runs of ten tokens out of `a` and `*`: 1,024, accepted. With the all-star run followed by `.a` and by `.*`: 1,025, refused.

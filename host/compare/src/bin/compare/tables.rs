@@ -3,6 +3,7 @@ use crate::tally::Tally;
 use compare::area::Lent;
 use compare::lists::Line;
 use compare::model::{self, Tree};
+pub use compare::model_snapshot::answer;
 use compare::original;
 use compare::random::Random;
 use compare::table::{ENTRY_NUMBERS, MAX_ENTRIES, MAX_FRONTIER, NODE_WORDS};
@@ -34,17 +35,6 @@ pub fn untouched(words: &[u32], from: usize) -> bool {
 /// Bytes of words, lowest byte first.
 pub fn bytes_of(words: &[u32]) -> Vec<u8> {
     words.iter().flat_map(|word| word.to_le_bytes()).collect()
-}
-
-/// An answer with its values.
-pub fn answer(number: u64, values: &[usize]) -> Answer {
-    let value = |index: usize| values.get(index).map_or(0, |&value| value as u64);
-    Answer {
-        number,
-        first: value(0),
-        second: value(1),
-        third: value(2),
-    }
 }
 
 /// The numbers and the text store of a list, its texts one behind the other.

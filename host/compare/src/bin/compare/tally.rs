@@ -1,4 +1,5 @@
 //! The comparisons themselves, and their count.
+use crate::seen::Seen;
 use compare::lists::Line;
 use compare::original;
 use router::raw::{self, Answer};
@@ -8,8 +9,8 @@ use std::process::{exit, ExitCode};
 use std::time::Duration;
 
 /// The numbers that the inputs must bring up.
-const NUMBERS: [u64; 20] = [
-    0, 1, 2, 3, 4, 5, 6, 7, 8, 9, 10, 11, 12, 13, 14, 15, 16, 19, 21, 99,
+const NUMBERS: [u64; 23] = [
+    0, 1, 2, 3, 4, 5, 6, 7, 8, 9, 10, 11, 12, 13, 14, 15, 16, 17, 18, 19, 20, 21, 99,
 ];
 
 #[derive(Default)]
@@ -24,11 +25,18 @@ pub struct Tally {
     pub matches: u64,
     pub largest_table: u64,
     pub largest_peak: u64,
+    /// Calls on snapshots and caches.
+    pub seen: Seen,
+    /// The random part that is being made, and the seed of its turn.
+    turn: Option<(&'static str, u64)>,
 }
 
 /// Says what differs and ends the run.
-fn differs<T: Debug>(call: &str, inputs: &str, ours: T, theirs: T) -> ! {
+fn differs<T: Debug>(turn: Option<(&str, u64)>, call: &str, inputs: &str, ours: T, theirs: T) -> ! {
     eprintln!("{call} differs\n{inputs}  the router: {ours:?}\n  as it should be: {theirs:?}");
+    if let Some((part, seed)) = turn {
+        eprintln!("this turn again: compare --part {part} --turn {seed}");
+    }
     exit(1)
 }
 
@@ -61,7 +69,7 @@ impl Tally {
         theirs: T,
     ) {
         if ours != theirs {
-            differs(call, &inputs(), ours, theirs);
+            differs(self.turn, call, &inputs(), ours, theirs);
         }
         self.total += 1;
     }
@@ -82,6 +90,27 @@ impl Tally {
     /// An answer came up.
     pub fn met(&mut self, answer: Answer) {
         *self.answers.entry(answer.number).or_default() += 1;
+    }
+
+    /// A call on a snapshot or a cache gave an answer of this number.
+    pub fn called(&mut self, call: &'static str, number: u64) {
+        *self.answers.entry(number).or_default() += 1;
+        self.seen.answer(call, number);
+    }
+
+    /// A turn of a random part begins. A difference in it is reported with its seed.
+    pub fn begin(&mut self, part: &'static str, seed: u64) {
+        self.turn = Some((part, seed));
+    }
+
+    /// The turns are over.
+    pub fn end(&mut self) {
+        self.turn = None;
+    }
+
+    /// The comparisons so far.
+    pub fn total(&self) -> u64 {
+        self.total
     }
 
     /// A text as a subject and as a pattern, its depth, and whether it ends in `>`.
@@ -132,11 +161,15 @@ impl Tally {
             "tables: {} built, {} matches on them; the largest has {} nodes, the largest peak is {}",
             self.builds, self.matches, self.largest_table, self.largest_peak
         );
-        let all_met = NUMBERS
-            .iter()
-            .all(|number| self.answers.contains_key(number));
-        if !all_met || self.verdicts.contains(&0) {
-            eprintln!("an answer never came up");
+        let mut missing = self.seen.report();
+        let never = |number: &&u64| !self.answers.contains_key(number);
+        let numbers = NUMBERS.iter().filter(never);
+        missing.extend(numbers.map(|number| format!("an answer by {number}")));
+        if self.verdicts.contains(&0) {
+            missing.push("a pattern that matches, or one that does not".into());
+        }
+        if !missing.is_empty() {
+            eprintln!("never came up: {}", missing.join("; "));
             return ExitCode::FAILURE;
         }
         let seconds = took.as_secs_f64();

@@ -1,0 +1,161 @@
+//! A snapshot and its caches on all sides: the router's with lent areas, the same by the definitions, and the original's unless the state is made by hand.
+//! Each call is made on every side; what it answers and every place of the areas lent to it are compared.
+mod cache_calls;
+mod snapshot_calls;
+
+use crate::tally::Tally;
+use crate::theirs::{Numbers, Theirs};
+pub use cache_calls::{Ask, Form};
+use compare::model_cache::Slots;
+use router::raw::{CacheState, SnapshotState};
+use std::fmt::Debug;
+
+#[derive(Clone, Debug, Default)]
+pub struct Cache {
+    pub state: CacheState,
+    pub slots: Slots,
+}
+
+#[derive(Clone, Debug, Default)]
+pub struct Side {
+    pub snapshot: SnapshotState,
+    pub area: Vec<u32>,
+    pub caches: Vec<Cache>,
+}
+
+/// A call, for the report of a difference.
+struct Call {
+    name: &'static str,
+    on: usize,
+    subject: Vec<u8>,
+    places: usize,
+}
+
+pub struct Cabinet {
+    ours: Side,
+    due: Side,
+    theirs: Option<Theirs>,
+    began: String,
+    calls: Vec<Call>,
+}
+
+/// The first place where two lists differ, and what stands there.
+fn difference<T: PartialEq + Copy>(ours: &[T], due: &[T]) -> Option<(usize, T, T)> {
+    if ours == due {
+        return None;
+    }
+    let mut pairs = ours.iter().zip(due).enumerate();
+    let found = pairs.find(|(_, (one, other))| one != other);
+    found.map(|(place, (&one, &other))| (place, one, other))
+}
+
+/// Whether a call with an answer of this number is made on the original's side: one that an added number refuses is not. 1 and 2 are decided before it.
+fn made_there(number: u64) -> bool {
+    number <= 9
+}
+
+impl Side {
+    fn shown(&self) -> String {
+        let area = format!("  {:?}, {} words\n", self.snapshot, self.area.len());
+        let cache = |cache: &Cache| {
+            let slots = &cache.slots;
+            let lengths = [slots.heads.len(), slots.keys.len(), slots.kept.len()];
+            format!(
+                "  {:?}, {lengths:?} numbers, bytes and targets\n",
+                cache.state
+            )
+        };
+        area + &self.caches.iter().map(cache).collect::<String>()
+    }
+}
+
+impl Cabinet {
+    pub fn new(side: Side, theirs: Option<Theirs>) -> Cabinet {
+        Cabinet {
+            began: side.shown(),
+            due: side.clone(),
+            ours: side,
+            theirs,
+            calls: Vec::new(),
+        }
+    }
+
+    /// The states at first and now, and the calls between them.
+    fn shown(&self) -> String {
+        let call = |call: &Call| {
+            let (name, on, places) = (call.name, call.on, call.places);
+            let subject = call.subject.escape_ascii();
+            format!("  {name} on {on}, \"{subject}\", {places} places\n")
+        };
+        let calls: String = self.calls.iter().map(call).collect();
+        let (began, now) = (&self.began, self.due.shown());
+        format!("at first\n{began}calls, of which the last differs\n{calls}around the last\n{now}")
+    }
+
+    fn note(&mut self, name: &'static str, on: usize, subject: &[u8], places: usize) {
+        let subject = subject.to_vec();
+        self.calls.push(Call {
+            name,
+            on,
+            subject,
+            places,
+        });
+    }
+
+    fn same<T: PartialEq + Debug>(&self, tally: &mut Tally, what: &str, ours: T, due: T) {
+        tally.compare_on(what, || self.shown(), ours, due);
+    }
+
+    fn same_words<T>(&self, tally: &mut Tally, what: &str, ours: &[T], due: &[T])
+    where
+        T: PartialEq + Copy + Debug,
+    {
+        self.same(tally, what, difference(ours, due), None);
+    }
+
+    fn same_area(&self, tally: &mut Tally) {
+        let (ours, due) = (&self.ours.area, &self.due.area);
+        self.same_words(tally, "the snapshot's area", ours, due);
+    }
+
+    fn same_slots(&self, tally: &mut Tally, on: usize) {
+        let (ours, due) = (&self.ours.caches[on].slots, &self.due.caches[on].slots);
+        self.same_words(tally, "heads", &ours.heads, &due.heads);
+        self.same_words(tally, "keys", &ours.keys, &due.keys);
+        self.same_words(tally, "kept targets", &ours.kept, &due.kept);
+    }
+
+    /// What the original's cache tells of itself, while it is compared in full.
+    fn same_numbers(&self, tally: &mut Tally, on: usize) {
+        let Some(theirs) = self.theirs.as_ref().filter(|theirs| theirs.in_full(on)) else {
+            return;
+        };
+        let state = self.ours.caches[on].state;
+        let ours = Numbers {
+            capacity: state.capacity,
+            len: state.used,
+            generation: state.generation,
+            walks: state.walks,
+        };
+        self.same(tally, "the original's cache", ours, theirs.numbers(on));
+    }
+
+    pub fn caches(&self) -> usize {
+        self.due.caches.len()
+    }
+
+    /// Whether a cache may rightly hold lists of another table.
+    pub fn may_be_stale(&self) -> bool {
+        self.theirs.as_ref().is_some_and(Theirs::twice)
+    }
+
+    /// All areas once more, when all calls are made.
+    pub fn close(&self, tally: &mut Tally) {
+        self.same_area(tally);
+        self.same_snapshot(tally);
+        for on in 0..self.caches() {
+            self.same_slots(tally, on);
+            self.same_numbers(tally, on);
+        }
+    }
+}

@@ -1,0 +1,157 @@
+//! The random parts. Each is made of turns, and each turn has a seed of its own, by which it can be made again.
+use crate::tally::Tally;
+use crate::{byte_limit, calls, hostile, kinds, limits, states, texts};
+use compare::random::Random;
+use std::time::{Duration, Instant};
+
+pub struct Part {
+    name: &'static str,
+    about: &'static str,
+    /// The turns that it makes in any case.
+    turns: u64,
+    turn: fn(&mut Tally, &mut Random),
+}
+
+static PARTS: [Part; 10] = [
+    Part {
+        name: "texts",
+        about: "random and damaged texts",
+        turns: 1_000_000,
+        turn: texts::turn,
+    },
+    Part {
+        name: "lists",
+        about: "random lists of seven kinds",
+        turns: 1_500,
+        turn: kinds::turn,
+    },
+    Part {
+        name: "inserts",
+        about: "inserts into a text store that is nearly full",
+        turns: 200_000,
+        turn: limits::tight_store,
+    },
+    Part {
+        name: "builds",
+        about: "builds of damaged lists, into areas that may be short",
+        turns: 100_000,
+        turn: limits::damaged_list,
+    },
+    Part {
+        name: "changed",
+        about: "built tables with words and counts changed",
+        turns: 600,
+        turn: hostile::changed_turn,
+    },
+    Part {
+        name: "drawn",
+        about: "tables with drawn words",
+        turns: 100_000,
+        turn: hostile::drawn_turn,
+    },
+    Part {
+        name: "calls",
+        about: "calls in any order on a snapshot and small caches",
+        turns: 12_000,
+        turn: calls::turn,
+    },
+    Part {
+        name: "wide",
+        about: "calls in any order on a snapshot and caches of up to 1,024 slots",
+        turns: 40,
+        turn: calls::wide_turn,
+    },
+    Part {
+        name: "states",
+        about: "calls on states and areas made by hand",
+        turns: 6_000,
+        turn: states::turn,
+    },
+    Part {
+        name: "bytes",
+        about: "resolves on bytes, of areas around 64 KiB",
+        turns: 600,
+        turn: byte_limit::turn,
+    },
+];
+
+/// How long a part goes on before the next one's turn.
+const WHILE: Duration = Duration::from_millis(200);
+
+pub fn named(name: &str) -> Option<&'static Part> {
+    PARTS.iter().find(|part| part.name == name)
+}
+
+/// What a part did.
+#[derive(Clone, Copy, Default)]
+struct Done {
+    turns: u64,
+    calls: u64,
+    comparisons: u64,
+}
+
+impl Done {
+    fn report(&self, about: &str, again: &str) {
+        let Done {
+            turns,
+            calls,
+            comparisons,
+        } = self;
+        let calls = match calls {
+            0 => String::new(),
+            _ => format!(", {calls} calls"),
+        };
+        println!("{comparisons:>12} comparisons: {about}, {turns} turns{calls}{again}");
+    }
+}
+
+impl Part {
+    /// The turn of a seed.
+    pub fn turn(&self, tally: &mut Tally, seed: u64) {
+        tally.begin(self.name, seed);
+        (self.turn)(tally, &mut Random::new(seed));
+        tally.end();
+    }
+
+    /// Turns for as long as it is told, added to what the part did.
+    fn run(
+        &self,
+        tally: &mut Tally,
+        random: &mut Random,
+        done: &mut Done,
+        goes_on: impl Fn(u64) -> bool,
+    ) {
+        let (calls, comparisons) = (tally.seen.calls(), tally.total());
+        let mut turns = 0;
+        while goes_on(turns) {
+            self.turn(tally, random.seed());
+            turns += 1;
+        }
+        done.turns += turns;
+        done.calls += tally.seen.calls() - calls;
+        done.comparisons += tally.total() - comparisons;
+    }
+}
+
+/// Every part, with its fixed number of turns.
+pub fn each(tally: &mut Tally, random: &mut Random) {
+    for part in &PARTS {
+        let mut done = Done::default();
+        part.run(tally, random, &mut done, |turns| turns < part.turns);
+        done.report(part.about, "");
+    }
+}
+
+/// Every part a while, again and again until the time is over.
+pub fn until(tally: &mut Tally, random: &mut Random, end: Instant) {
+    let mut done = [Done::default(); PARTS.len()];
+    while Instant::now() < end {
+        for (part, done) in PARTS.iter().zip(&mut done) {
+            let pause = end.min(Instant::now() + WHILE);
+            part.run(tally, random, done, |_| Instant::now() < pause);
+        }
+    }
+    for (part, done) in PARTS.iter().zip(done) {
+        done.report(part.about, ", in the time that was left");
+    }
+}

@@ -1,0 +1,169 @@
+//! What the inputs must bring up, each at least once: a kind that never came up means that the comparisons miss it.
+use crate::theirs::Scope;
+use compare::model_cache::{Stage, Way};
+use router::limits::{MAX_CAPACITY, SLOT_BYTES};
+use std::collections::BTreeMap;
+
+/// The answers that each call on a snapshot or a cache must give. No subject is refused as 4.
+const ANSWERS: [(&str, &[u64]); 11] = [
+    ("snapshot_new", &[0, 19, 20]),
+    ("snapshot_empty", &[0, 20]),
+    ("store", &[0, 19, 20]),
+    ("snapshot_match", &[0, 1, 2, 3, 5, 6, 7, 8, 9, 19, 21]),
+    ("cache_new", &[0, 17]),
+    ("cache_clear", &[0]),
+    ("resolve", &[0, 1, 2, 3, 5, 6, 7, 8, 9, 17, 18, 19, 21]),
+    (
+        "resolve_bytes",
+        &[0, 1, 2, 3, 5, 6, 7, 8, 9, 17, 18, 19, 21, 99],
+    ),
+    ("single_home", &[0]),
+    ("resolve_single_home", &[0, 1, 2, 3, 5, 6, 7, 8, 9, 19, 21]),
+    (
+        "resolve_single_home_cached",
+        &[0, 1, 2, 3, 5, 6, 7, 8, 9, 17, 18, 19, 21],
+    ),
+];
+
+/// What else must happen, by name.
+pub const HIT: &str = "hits";
+pub const STALE: &str = "hits on a list that the standing table does not give";
+pub const EQUAL_KEYS: &str = "hits on the first of equal keys";
+pub const KEPT: &str = "misses kept in a new slot";
+pub const DROPPED: &str = "misses kept in the slot of the smallest stamp";
+pub const DROPPED_OF_1024: &str = "the same in a cache of 1,024 slots";
+pub const EQUAL_STAMPS: &str = "the same where slots have equal stamps";
+pub const LONG_SUBJECT: &str = "walks not kept, the subject over 256 bytes";
+pub const LONG_LIST: &str = "walks not kept, the list over 16 targets";
+pub const EMPTIED: &str = "generations adopted by a cache that held lists";
+pub const ADOPTED: &str = "generations adopted by an empty cache";
+pub const SHORT_HIT: &str = "refusals of a hit, the output too short";
+pub const REFUSED_WALK: &str = "refusals in or after a walk";
+pub const COUNTS: &str = "refusals on the standing table's counts";
+pub const COUNTS_OF_HIT: &str = "the same where the cache keeps the list";
+pub const NOT_ADOPTED: &str = "refusals in or after a walk, on another generation than the cache's";
+pub const CLEARED: &str = "clears of a cache that held lists";
+pub const NO_STREAM: &str = "verdicts NoStream";
+pub const ROUTED: &str = "verdicts Routed";
+pub const AMBIGUOUS: &str = "verdicts Ambiguous";
+pub const TICK_WRAPPED: &str = "ticks that wrapped";
+pub const WALKS_WRAPPED: &str = "walk counts that wrapped";
+pub const COUNTER_WRAPPED: &str = "generation counters that wrapped";
+pub const IN_FULL: &str = "resolves compared with the original in full";
+pub const LISTS_ONLY: &str = "resolves compared with the original by list or verdict alone";
+pub const NOT_COMPARED: &str =
+    "resolves not compared with the original, as two tables had one generation";
+
+const WAYS: [&str; 26] = [
+    HIT,
+    STALE,
+    EQUAL_KEYS,
+    KEPT,
+    DROPPED,
+    DROPPED_OF_1024,
+    EQUAL_STAMPS,
+    LONG_SUBJECT,
+    LONG_LIST,
+    EMPTIED,
+    ADOPTED,
+    SHORT_HIT,
+    REFUSED_WALK,
+    NOT_ADOPTED,
+    COUNTS,
+    COUNTS_OF_HIT,
+    CLEARED,
+    NO_STREAM,
+    ROUTED,
+    AMBIGUOUS,
+    TICK_WRAPPED,
+    WALKS_WRAPPED,
+    COUNTER_WRAPPED,
+    IN_FULL,
+    LISTS_ONLY,
+    NOT_COMPARED,
+];
+
+/// Verdicts by kind, in the order of their numbers.
+pub const VERDICTS: [&str; 3] = [NO_STREAM, ROUTED, AMBIGUOUS];
+
+/// The name of what is compared of a resolve.
+pub fn scope(scope: Scope) -> &'static str {
+    match scope {
+        Scope::Full => IN_FULL,
+        Scope::ListOrVerdict => LISTS_ONLY,
+        Scope::Nothing => NOT_COMPARED,
+    }
+}
+
+/// The names of what a resolve came to.
+pub fn ways(way: Way, subject: &[u8], capacity: u64) -> Vec<&'static str> {
+    let also = |name, holds: bool| holds.then_some(name);
+    let [first, second, third] = match way {
+        Way::Refused(Stage::Subject | Stage::Cache) => [None; 3],
+        Way::Refused(Stage::Counts { would_hit }) => {
+            [Some(COUNTS), also(COUNTS_OF_HIT, would_hit), None]
+        }
+        Way::Refused(Stage::Hit) => [Some(SHORT_HIT), None, None],
+        Way::Refused(Stage::Walk) => [Some(REFUSED_WALK), None, None],
+        Way::Hit { equal_keys } => [Some(HIT), also(EQUAL_KEYS, equal_keys), None],
+        Way::Kept => [Some(KEPT), None, None],
+        Way::Dropped { equal_stamps } => [
+            Some(DROPPED),
+            also(EQUAL_STAMPS, equal_stamps),
+            also(DROPPED_OF_1024, capacity == MAX_CAPACITY as u64),
+        ],
+        Way::NotKept if subject.len() > SLOT_BYTES => [Some(LONG_SUBJECT), None, None],
+        Way::NotKept => [Some(LONG_LIST), None, None],
+    };
+    [first, second, third].into_iter().flatten().collect()
+}
+
+#[derive(Default)]
+pub struct Seen {
+    answers: BTreeMap<(&'static str, u64), u64>,
+    ways: BTreeMap<&'static str, u64>,
+}
+
+impl Seen {
+    /// A call gave an answer of this number.
+    pub fn answer(&mut self, call: &'static str, number: u64) {
+        *self.answers.entry((call, number)).or_default() += 1;
+    }
+
+    /// One of the other kinds happened.
+    pub fn way(&mut self, way: &'static str) {
+        *self.ways.entry(way).or_default() += 1;
+    }
+
+    fn answered(&self, call: &'static str, number: u64) -> u64 {
+        self.answers.get(&(call, number)).copied().unwrap_or(0)
+    }
+
+    /// How many calls were made in all.
+    pub fn calls(&self) -> u64 {
+        self.answers.values().sum()
+    }
+
+    /// Prints every count. What never came up, though it must.
+    pub fn report(&self) -> Vec<String> {
+        let mut missing = Vec::new();
+        println!("calls on snapshots and caches: {}", self.calls());
+        for (call, numbers) in ANSWERS {
+            let counts: BTreeMap<u64, u64> = numbers
+                .iter()
+                .map(|&number| (number, self.answered(call, number)))
+                .collect();
+            println!("  {call}, answers by number: {counts:?}");
+            let never = numbers.iter().filter(|number| counts[number] == 0);
+            missing.extend(never.map(|number| format!("{call} answered by {number}")));
+        }
+        for way in WAYS {
+            let count = self.ways.get(way).copied().unwrap_or(0);
+            println!("{count:>12} {way}");
+            if count == 0 {
+                missing.push(way.into());
+            }
+        }
+        missing
+    }
+}
