@@ -256,7 +256,8 @@ pub fn turn(tally: &mut Tally, random: &mut Random) {
 /// One turn: lists of up to 1,600 lines, a cache of up to 1,024 slots, and more subjects, each of them once and then in any order.
 pub fn wide_turn(tally: &mut Tally, random: &mut Random) {
     let capacity = [100, 400, 1024, 1024][random.below(4)];
-    let pool = Pool::yard(tally, random, 1600, 3 * capacity / 2);
+    let lines = if random.once_in(2) { 300 } else { 1600 };
+    let pool = Pool::yard(tally, random, lines, 3 * capacity / 2);
     let small = 1 + random.below(40);
     let mut world = World::new(tally, random, pool, &[capacity, small]);
     world.store_once_in = capacity;

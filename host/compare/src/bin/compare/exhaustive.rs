@@ -1,5 +1,5 @@
 //! Every input up to some length.
-use crate::tally::Tally;
+use crate::tally::{Family, Tally};
 
 /// Characters of each kind that the grammar knows, with two and three bytes too.
 const CHARACTERS: [&str; 9] = ["a", ".", "*", ">", " ", "\x01", "\x7f", "é", "€"];
@@ -48,15 +48,21 @@ fn pairs(tally: &mut Tally) {
 
 pub fn run(tally: &mut Tally) {
     texts_of(&CHARACTERS.map(str::as_bytes), 6, |text| tally.text(text));
-    tally.report("texts of up to 6 characters out of 9");
+    tally.report(Family::Texts, "texts of up to 6 characters out of 9");
 
     let bytes: Vec<u8> = (0..=255).collect();
     texts_of_bytes(&bytes, 3, |text| tally.text(text));
-    tally.report("texts of up to 3 bytes");
+    tally.report(Family::Texts, "texts of up to 3 bytes");
 
     texts_of_bytes(UTF8_EDGES, 4, |text| tally.text(text));
-    tally.report("texts of up to 4 bytes out of 26 at the edges of UTF-8");
+    tally.report(
+        Family::Texts,
+        "texts of up to 4 bytes out of 26 at the edges of UTF-8",
+    );
 
     pairs(tally);
-    tally.report("patterns of up to 5 characters out of 5 against subjects of up to 5 out of 3");
+    tally.report(
+        Family::Texts,
+        "patterns of up to 5 characters out of 5 against subjects of up to 5 out of 3",
+    );
 }

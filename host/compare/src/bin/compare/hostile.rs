@@ -2,7 +2,7 @@
 //! describes them gives, and writes the list alone, or nothing.
 use crate::kinds::run_of_ten;
 use crate::tables::{self, answer, bytes_of, fresh_words, untouched, MOST_BYTES};
-use crate::tally::Tally;
+use crate::tally::{Family, Tally};
 use compare::area::Lent;
 use compare::lists::{self, Line};
 use compare::original;
@@ -223,7 +223,10 @@ fn byte_limit(tally: &mut Tally, random: &mut Random) {
 pub fn limits(tally: &mut Tally, random: &mut Random) {
     wide(tally, random);
     byte_limit(tally, random);
-    tally.report("frontiers around 1,024 that no build makes, and areas around 64 KiB");
+    tally.report(
+        Family::Tables,
+        "frontiers around 1,024 that no build makes, and areas around 64 KiB",
+    );
 }
 
 /// One turn: the table of a list, changed again and again.

@@ -1,7 +1,7 @@
 //! Lists and areas at their limits: inserts, refused builds, and the scope document's row of 1,024 runs.
 use crate::kinds::run_of_ten;
 use crate::tables::{self, answer, fresh_words, packed, untouched};
-use crate::tally::Tally;
+use crate::tally::{Family, Tally};
 use compare::lists::{self, Line};
 use compare::model::Tree;
 use compare::original;
@@ -59,7 +59,7 @@ pub fn inserts(tally: &mut Tally) {
             fill(tally, places, odd);
         }
     }
-    tally.report("inserts until the list is full");
+    tally.report(Family::Tables, "inserts until the list is full");
 }
 
 /// What build should say of numbers and bytes that may be any, by the scope document's words.
@@ -188,7 +188,7 @@ fn long_lists(tally: &mut Tally, random: &mut Random) {
 
 pub fn builds(tally: &mut Tally, random: &mut Random) {
     long_lists(tally, random);
-    tally.report("builds of lists of about 2,048 entries");
+    tally.report(Family::Tables, "builds of lists of about 2,048 entries");
 }
 
 /// All runs of ten tokens out of `a` and `*`: 1,024, accepted. With the all-star run followed by `.a` and by `.*`: 1,025, refused.
@@ -219,7 +219,7 @@ pub fn runs(tally: &mut Tally, random: &mut Random) {
         Some(answer(16, &[1025, 1024])),
     );
     tables::build(tally, random, &lines);
-    tally.report("the 1,024 runs of ten tokens, and two more");
+    tally.report(Family::Tables, "the 1,024 runs of ten tokens, and two more");
 }
 
 /// A build into areas that just hold it, one that lacks a node or a target, and matches on it.
@@ -253,5 +253,8 @@ pub fn largest(tally: &mut Tally) {
             .collect();
         tight(tally, &mut random, &lines);
     }
-    tally.report("the lists with the most nodes and with the longest texts");
+    tally.report(
+        Family::Tables,
+        "the lists with the most nodes and with the longest texts",
+    );
 }

@@ -1,8 +1,8 @@
 //! Compares the router, through its C calls, with the original on the same inputs, and counts. The first difference is printed and ends the run with status 1.
 //!
 //! compare [--seconds N] [--seed N]
-//! The exhaustive parts and those at the limits run whole, and each random part makes a fixed number of turns. With --seconds the random parts then go on,
-//! a while each, until so many seconds have passed since the start.
+//! The exhaustive parts and those at the limits run whole, and each random part makes a fixed number of turns. With --seconds the random parts then go on
+//! by turns for N seconds more.
 //!
 //! compare --part NAME --turn SEED
 //! One turn of a random part, as the report of a difference names it.
@@ -60,7 +60,7 @@ fn main() -> ExitCode {
     whole(&mut tally, &mut random);
     parts::each(&mut tally, &mut random);
     if let Some(seconds) = options.seconds {
-        let end = began + Duration::from_secs(seconds);
+        let end = Instant::now() + Duration::from_secs(seconds);
         parts::until(&mut tally, &mut random, end);
     }
     tally.close(began.elapsed())

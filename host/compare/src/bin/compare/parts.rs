@@ -1,5 +1,5 @@
 //! The random parts. Each is made of turns, and each turn has a seed of its own, by which it can be made again.
-use crate::tally::Tally;
+use crate::tally::{Family, Tally};
 use crate::{byte_limit, calls, hostile, kinds, limits, states, texts};
 use compare::random::Random;
 use std::time::{Duration, Instant};
@@ -7,8 +7,11 @@ use std::time::{Duration, Instant};
 pub struct Part {
     name: &'static str,
     about: &'static str,
+    family: Family,
     /// The turns that it makes in any case.
     turns: u64,
+    /// How many milliseconds it goes on, where seconds are asked for, before the next part's turn.
+    share: u64,
     turn: fn(&mut Tally, &mut Random),
 }
 
@@ -16,67 +19,84 @@ static PARTS: [Part; 10] = [
     Part {
         name: "texts",
         about: "random and damaged texts",
+        family: Family::Texts,
         turns: 1_000_000,
+        share: 400,
         turn: texts::turn,
     },
     Part {
         name: "lists",
         about: "random lists of seven kinds",
+        family: Family::Tables,
         turns: 1_500,
+        share: 400,
         turn: kinds::turn,
     },
     Part {
         name: "inserts",
         about: "inserts into a text store that is nearly full",
+        family: Family::Tables,
         turns: 200_000,
+        share: 50,
         turn: limits::tight_store,
     },
     Part {
         name: "builds",
         about: "builds of damaged lists, into areas that may be short",
+        family: Family::Tables,
         turns: 100_000,
+        share: 100,
         turn: limits::damaged_list,
     },
     Part {
         name: "changed",
         about: "built tables with words and counts changed",
+        family: Family::Tables,
         turns: 600,
+        share: 100,
         turn: hostile::changed_turn,
     },
     Part {
         name: "drawn",
         about: "tables with drawn words",
+        family: Family::Tables,
         turns: 100_000,
+        share: 100,
         turn: hostile::drawn_turn,
     },
     Part {
         name: "calls",
         about: "calls in any order on a snapshot and small caches",
+        family: Family::Calls,
         turns: 12_000,
+        share: 500,
         turn: calls::turn,
     },
     Part {
         name: "wide",
         about: "calls in any order on a snapshot and caches of up to 1,024 slots",
+        family: Family::Calls,
         turns: 40,
+        share: 250,
         turn: calls::wide_turn,
     },
     Part {
         name: "states",
         about: "calls on states and areas made by hand",
+        family: Family::Calls,
         turns: 6_000,
+        share: 250,
         turn: states::turn,
     },
     Part {
         name: "bytes",
         about: "resolves on bytes, of areas around 64 KiB",
+        family: Family::Calls,
         turns: 600,
+        share: 100,
         turn: byte_limit::turn,
     },
 ];
-
-/// How long a part goes on before the next one's turn.
-const WHILE: Duration = Duration::from_millis(200);
 
 pub fn named(name: &str) -> Option<&'static Part> {
     PARTS.iter().find(|part| part.name == name)
@@ -121,7 +141,7 @@ impl Part {
         done: &mut Done,
         goes_on: impl Fn(u64) -> bool,
     ) {
-        let (calls, comparisons) = (tally.seen.calls(), tally.total());
+        let calls = tally.seen.calls();
         let mut turns = 0;
         while goes_on(turns) {
             self.turn(tally, random.seed());
@@ -129,7 +149,7 @@ impl Part {
         }
         done.turns += turns;
         done.calls += tally.seen.calls() - calls;
-        done.comparisons += tally.total() - comparisons;
+        done.comparisons += tally.count(self.family);
     }
 }
 
@@ -147,11 +167,11 @@ pub fn until(tally: &mut Tally, random: &mut Random, end: Instant) {
     let mut done = [Done::default(); PARTS.len()];
     while Instant::now() < end {
         for (part, done) in PARTS.iter().zip(&mut done) {
-            let pause = end.min(Instant::now() + WHILE);
+            let pause = end.min(Instant::now() + Duration::from_millis(part.share));
             part.run(tally, random, done, |_| Instant::now() < pause);
         }
     }
     for (part, done) in PARTS.iter().zip(done) {
-        done.report(part.about, ", in the time that was left");
+        done.report(part.about, ", in the seconds asked for");
     }
 }

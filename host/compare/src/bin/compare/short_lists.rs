@@ -1,6 +1,6 @@
 //! Every short list of short patterns, with every short subject.
 use crate::tables;
-use crate::tally::Tally;
+use crate::tally::{Family, Tally};
 use compare::lists::Line;
 use compare::random::Random;
 
@@ -67,11 +67,14 @@ fn part(tally: &mut Tally, random: &mut Random, words: [&[&str]; 2], most: usize
             }
         }
     });
-    tally.report(&format!(
-        "lists of up to {length} out of {} patterns, with {} subjects each",
-        patterns.len(),
-        subjects.len()
-    ));
+    tally.report(
+        Family::Tables,
+        &format!(
+            "lists of up to {length} out of {} patterns, with {} subjects each",
+            patterns.len(),
+            subjects.len()
+        ),
+    );
 }
 
 pub fn run(tally: &mut Tally, random: &mut Random) {

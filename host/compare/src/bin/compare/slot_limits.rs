@@ -3,7 +3,7 @@ use crate::cabinet::{Ask, Cabinet, Cache, Form, Side};
 use crate::calls::any_slots;
 use crate::pools::Pool;
 use crate::states::{compare_made, counter};
-use crate::tally::Tally;
+use crate::tally::{Family, Tally};
 use compare::area::Lent;
 use compare::model_cache::Slots;
 use compare::random::Random;
@@ -73,5 +73,5 @@ pub fn run(tally: &mut Tally, random: &mut Random) {
             cabinet.resolve(tally, Form::List, ask, None);
         }
     }
-    tally.report("caches of about 1,024 slots, made by hand");
+    tally.report(Family::Calls, "caches of about 1,024 slots, made by hand");
 }

@@ -46,6 +46,11 @@ pub fn counter(random: &mut Random) -> u64 {
     }
 }
 
+/// Few generations, so that cache and snapshot often have the same.
+fn generation(random: &mut Random) -> u64 {
+    [0, 1, u64::MAX][random.below(3)]
+}
+
 /// The words of a table with some behind them, or some too few.
 fn area_of(random: &mut Random, table: &Lent) -> Vec<u32> {
     let mut area = [&table.node_words[..], &table.target_words].concat();
@@ -60,7 +65,7 @@ fn any_snapshot(random: &mut Random, table: &Lent) -> SnapshotState {
     SnapshotState {
         nodes: mostly(random, table.nodes as u64, 12) as usize,
         targets: mostly(random, table.targets as u64, 12) as usize,
-        generation: random.below(3) as u64,
+        generation: generation(random),
         next: counter(random),
     }
 }
@@ -109,7 +114,7 @@ fn any_cache(random: &mut Random, pool: &Pool) -> Cache {
     let state = CacheState {
         capacity: mostly(random, count as u64, 12) as usize,
         used: mostly(random, used as u64, 12) as usize,
-        generation: random.below(3) as u64,
+        generation: generation(random),
         tick: counter(random),
         walks: counter(random),
     };

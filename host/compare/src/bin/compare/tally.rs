@@ -13,10 +13,20 @@ const NUMBERS: [u64; 23] = [
     0, 1, 2, 3, 4, 5, 6, 7, 8, 9, 10, 11, 12, 13, 14, 15, 16, 17, 18, 19, 20, 21, 99,
 ];
 
+/// What comparisons are about.
+#[derive(Clone, Copy)]
+pub enum Family {
+    Texts,
+    Tables,
+    Calls,
+}
+
 #[derive(Default)]
 pub struct Tally {
     total: u64,
     reported: u64,
+    /// Comparisons of each family.
+    families: [u64; 3],
     answers: BTreeMap<u64, u64>,
     /// Matches of a pattern that were answered by no and by yes.
     verdicts: [u64; 2],
@@ -147,13 +157,24 @@ impl Tally {
     }
 
     /// Says how many comparisons were made since the last report.
-    pub fn report(&mut self, part: &str) {
-        println!("{:>12} comparisons: {part}", self.total - self.reported);
+    pub fn report(&mut self, family: Family, part: &str) {
+        println!("{:>12} comparisons: {part}", self.count(family));
+    }
+
+    /// How many comparisons were made since this was last asked. They belong to this family.
+    pub fn count(&mut self, family: Family) -> u64 {
+        let count = self.total - self.reported;
+        self.families[family as usize] += count;
         self.reported = self.total;
+        count
     }
 
     /// Says what was met in all. An answer that never came up means that the inputs miss a rule, and fails.
     pub fn close(&self, took: Duration) -> ExitCode {
+        let [texts, tables, calls] = self.families;
+        println!("{texts:>12} comparisons of texts and matches of patterns in all");
+        println!("{tables:>12} comparisons of lists, tables and matches on them in all");
+        println!("{calls:>12} comparisons of calls on snapshots and caches in all");
         let [no, yes] = self.verdicts;
         println!("answers by number: {:?}", self.answers);
         println!("matches of a pattern: {yes} yes, {no} no");

@@ -1,5 +1,5 @@
 //! The original's snapshot and caches, and how far a call on them may be compared, by the scope document's words: a cache in full until its first resolve
-//! that the router does not keep; from then on only lists and verdicts, and only while no two tables that stood had one generation.
+//! of a subject over 256 bytes or with a list over 16 targets; from then on only lists and verdicts, and only while no two tables that stood had one generation.
 use oracle::resolve_cache::ResolveCache;
 use oracle::sublist::{Sublist, SublistSnapshot};
 use std::collections::HashSet;
@@ -24,7 +24,7 @@ pub struct Numbers {
 pub struct Theirs {
     pub snapshot: SublistSnapshot<u32>,
     pub caches: Vec<ResolveCache<u32>>,
-    /// Whether a cache had a resolve that the router does not keep.
+    /// Whether a cache had such a resolve.
     parted: Vec<bool>,
     /// The generations of the tables that stood, and whether two had the same.
     stood: HashSet<u64>,
@@ -52,9 +52,9 @@ impl Theirs {
         stamped
     }
 
-    /// What of an accepted resolve on this cache is compared. The router kept its list, or did not.
-    pub fn scope(&mut self, cache: usize, kept: bool) -> Scope {
-        self.parted[cache] |= !kept;
+    /// What of an accepted resolve on this cache is compared. Its subject has over 256 bytes or its list over 16 targets, or not.
+    pub fn scope(&mut self, cache: usize, over: bool) -> Scope {
+        self.parted[cache] |= over;
         match (self.parted[cache], self.twice) {
             (false, _) => Scope::Full,
             (true, false) => Scope::ListOrVerdict,

@@ -4,12 +4,13 @@ use crate::copies::{ByteCall, Odd};
 use crate::seen;
 use crate::tables::fresh_words;
 use crate::tally::Tally;
-use crate::theirs::Scope;
+use crate::theirs::{Scope, Theirs};
 use compare::model_binding;
 use compare::model_cache::{self, list_of, state_after, Stage, Way};
 use compare::model_snapshot::answer;
 use compare::original_calls;
-use router::raw::{self, CacheState, Resolved};
+use router::limits::{SLOT_BYTES, SLOT_TARGETS};
+use router::raw::{self, Answer, CacheState, Resolved};
 
 /// What is asked of a cache.
 #[derive(Clone, Copy)]
@@ -58,6 +59,25 @@ impl Form {
             ask.subject,
             out,
         )
+    }
+
+    /// The original's answer: the length of the list, which is put into `list`, or the verdict.
+    fn by_original(self, theirs: &mut Theirs, ask: Ask, list: &mut Vec<u32>) -> Answer {
+        let (cache, snapshot) = (&mut theirs.caches[ask.on], &theirs.snapshot);
+        match self {
+            Form::List => original_calls::resolve(cache, snapshot, ask.subject, list),
+            Form::Verdict => {
+                original_calls::resolve_single_home_cached(cache, snapshot, ask.subject)
+            }
+        }
+    }
+
+    /// The length of the list behind an accepted answer of the original. A verdict of kind 0 or 1 is on a list of that length.
+    fn length(self, told: Answer) -> u64 {
+        match self {
+            Form::Verdict if told.first == 2 => told.second,
+            _ => told.first,
+        }
     }
 
     fn by_definition(self, side: &mut Side, ask: Ask, out: &mut [u32]) -> (Resolved, Way) {
@@ -125,7 +145,7 @@ impl Cabinet {
         let listed = due.number == 0 && form == Form::List;
         let kept = &self.due.caches[ask.on].slots.kept;
         let list = listed.then(|| list_of(&due, kept, &out_due).to_vec());
-        self.resolve_theirs(tally, form, ask, due, way, list.as_deref());
+        self.resolve_theirs(tally, form, ask, due, list.as_deref());
         (way, list)
     }
 
@@ -151,23 +171,18 @@ impl Cabinet {
         form: Form,
         ask: Ask,
         due: Resolved,
-        way: Way,
         list: Option<&[u32]>,
     ) {
         let Some(theirs) = self.theirs.as_mut().filter(|_| made_there(due.number)) else {
+            self.needed(tally, ask.subject, ask.places, due);
             return;
         };
-        let (cache, snapshot) = (&mut theirs.caches[ask.on], &theirs.snapshot);
         let mut their_list = Vec::new();
-        let told = match form {
-            Form::List => original_calls::resolve(cache, snapshot, ask.subject, &mut their_list),
-            Form::Verdict => {
-                original_calls::resolve_single_home_cached(cache, snapshot, ask.subject)
-            }
-        };
+        let told = form.by_original(theirs, ask, &mut their_list);
         let mut values = [due.first as usize, due.second as usize];
-        if due.number == 0 {
-            let scope = theirs.scope(ask.on, way != Way::NotKept);
+        if due.number == 0 && told.accepted() {
+            let over = ask.subject.len() > SLOT_BYTES || form.length(told) > SLOT_TARGETS as u64;
+            let scope = theirs.scope(ask.on, over);
             tally.seen.way(seen::scope(scope));
             if scope == Scope::Nothing {
                 return;
@@ -180,6 +195,13 @@ impl Cabinet {
         let due = answer(due.number, &values);
         self.same(tally, "the original's resolve", due, told);
         self.same_numbers(tally, ask.on);
+    }
+
+    /// The length that 21 names, which is the original's unless the cache may hold a list of another table.
+    fn needed(&self, tally: &mut Tally, subject: &[u8], places: usize, due: Resolved) {
+        if due.number == 21 && !self.may_be_stale() {
+            self.same_length(tally, subject, places, due.first);
+        }
     }
 }
 

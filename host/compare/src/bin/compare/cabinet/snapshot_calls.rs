@@ -85,6 +85,9 @@ impl Cabinet {
             out_due.truncate(due.first as usize);
         }
         self.match_theirs(tally, subject, due, &out_due);
+        if due.number == 21 {
+            self.same_length(tally, subject, places, due.first);
+        }
         due.accepted().then_some((due.second, out_due))
     }
 
@@ -101,6 +104,20 @@ impl Cabinet {
         self.same(tally, "the original's match", due, told);
     }
 
+    /// The length that 21 names, which is the original's and more than the places of the output.
+    pub fn same_length(&self, tally: &mut Tally, subject: &[u8], places: usize, named: u64) {
+        if let Some(theirs) = &self.theirs {
+            let found = original_calls::match_into(&theirs.snapshot, subject, &mut Vec::new());
+            let too_long = named > places as u64;
+            self.same(
+                tally,
+                "the length named",
+                (named, too_long),
+                (found.first, true),
+            );
+        }
+    }
+
     /// A verdict without a cache. The peak that it should give, if it is accepted.
     pub fn home(&mut self, tally: &mut Tally, subject: &[u8], places: usize) -> Option<u64> {
         self.note("resolve_single_home", 0, subject, places);
@@ -115,6 +132,9 @@ impl Cabinet {
             let told = original_calls::resolve_single_home(&theirs.snapshot, subject);
             let verdict = answer(due.number, &[due.kind as usize, due.value as usize]);
             self.same(tally, "the original's verdict", verdict, told);
+        }
+        if due.number == 21 {
+            self.same_length(tally, subject, places, due.kind);
         }
         if due.number != 0 {
             return None;
