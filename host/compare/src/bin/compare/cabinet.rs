@@ -24,11 +24,52 @@ pub struct Side {
 }
 
 /// A call, for the report of a difference.
-struct Call {
-    name: &'static str,
-    on: usize,
-    subject: Vec<u8>,
-    places: usize,
+enum Call {
+    Store {
+        nodes: usize,
+        targets: usize,
+    },
+    Clear {
+        on: usize,
+    },
+    /// Of a subject, with so many places for the list; on a cache or on the snapshot alone.
+    Asked {
+        name: &'static str,
+        on: Option<usize>,
+        subject: Vec<u8>,
+        places: usize,
+    },
+}
+
+impl Call {
+    fn asked(name: &'static str, on: Option<usize>, subject: &[u8], places: usize) -> Call {
+        let subject = subject.to_vec();
+        Call::Asked {
+            name,
+            on,
+            subject,
+            places,
+        }
+    }
+
+    fn shown(&self) -> String {
+        match self {
+            Call::Store { nodes, targets } => {
+                format!("  store of {nodes} nodes and {targets} targets\n")
+            }
+            Call::Clear { on } => format!("  clear of cache {on}\n"),
+            Call::Asked {
+                name,
+                on,
+                subject,
+                places,
+            } => {
+                let on = on.map_or(String::new(), |on| format!(" on cache {on}"));
+                let subject = subject.escape_ascii();
+                format!("  {name}{on} of \"{subject}\", {places} places\n")
+            }
+        }
+    }
 }
 
 pub struct Cabinet {
@@ -82,24 +123,9 @@ impl Cabinet {
 
     /// The states at first and now, and the calls between them.
     fn shown(&self) -> String {
-        let call = |call: &Call| {
-            let (name, on, places) = (call.name, call.on, call.places);
-            let subject = call.subject.escape_ascii();
-            format!("  {name} on {on}, \"{subject}\", {places} places\n")
-        };
-        let calls: String = self.calls.iter().map(call).collect();
+        let calls: String = self.calls.iter().map(Call::shown).collect();
         let (began, now) = (&self.began, self.due.shown());
         format!("at first\n{began}calls, of which the last differs\n{calls}around the last\n{now}")
-    }
-
-    fn note(&mut self, name: &'static str, on: usize, subject: &[u8], places: usize) {
-        let subject = subject.to_vec();
-        self.calls.push(Call {
-            name,
-            on,
-            subject,
-            places,
-        });
     }
 
     fn same<T: PartialEq + Debug>(&self, tally: &mut Tally, what: &str, ours: T, due: T) {

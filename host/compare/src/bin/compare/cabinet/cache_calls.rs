@@ -1,5 +1,5 @@
 //! Calls on a cache.
-use super::{made_there, Cabinet, Side};
+use super::{made_there, Cabinet, Call, Side};
 use crate::copies::{ByteCall, Odd};
 use crate::seen;
 use crate::tables::fresh_words;
@@ -100,7 +100,7 @@ impl Form {
 
 impl Cabinet {
     pub fn clear(&mut self, tally: &mut Tally, on: usize) {
-        self.note("clear", on, b"", 0);
+        self.calls.push(Call::Clear { on });
         let before = self.due.caches[on].state;
         let due = model_cache::clear(before);
         let ours = raw::cache_clear(self.ours.caches[on].state);
@@ -126,7 +126,8 @@ impl Cabinet {
         ask: Ask,
         odd: Option<Odd>,
     ) -> (Way, Option<Vec<u32>>) {
-        self.note(form.name(), ask.on, ask.subject, ask.places);
+        let call = Call::asked(form.name(), Some(ask.on), ask.subject, ask.places);
+        self.calls.push(call);
         let (mut out, mut out_due) = (fresh_words(ask.places), fresh_words(ask.places));
         let bytes = odd.map(|odd| ByteCall::make(&self.ours, ask.on, ask.subject, &out, odd));
         let before = self.due.caches[ask.on].state;

@@ -1,5 +1,5 @@
 //! Calls on the snapshot.
-use super::{made_there, Cabinet};
+use super::{made_there, Cabinet, Call};
 use crate::seen;
 use crate::tables::fresh_words;
 use crate::tally::Tally;
@@ -27,7 +27,8 @@ impl Cabinet {
         generation: u64,
         original: impl FnOnce() -> Sublist<u32>,
     ) -> bool {
-        self.note("store", table.nodes, b"", table.targets);
+        let (nodes, targets) = (table.nodes, table.targets);
+        self.calls.push(Call::Store { nodes, targets });
         let due = model_snapshot::store(self.due.snapshot, table, &mut self.due.area);
         let ours = raw::store(
             self.ours.snapshot,
@@ -73,7 +74,8 @@ impl Cabinet {
         subject: &[u8],
         places: usize,
     ) -> Option<(u64, Vec<u32>)> {
-        self.note("snapshot_match", 0, subject, places);
+        let call = Call::asked("snapshot_match", None, subject, places);
+        self.calls.push(call);
         let (mut out, mut out_due) = (fresh_words(places), fresh_words(places));
         let (state, area) = (self.due.snapshot, &self.due.area);
         let due = model_snapshot::match_into(state, area, subject, &mut out_due);
@@ -120,7 +122,8 @@ impl Cabinet {
 
     /// A verdict without a cache. The peak that it should give, if it is accepted.
     pub fn home(&mut self, tally: &mut Tally, subject: &[u8], places: usize) -> Option<u64> {
-        self.note("resolve_single_home", 0, subject, places);
+        let call = Call::asked("resolve_single_home", None, subject, places);
+        self.calls.push(call);
         let (mut out, mut out_due) = (fresh_words(places), fresh_words(places));
         let (state, area) = (self.due.snapshot, &self.due.area);
         let due = model_binding::resolve_single_home(state, area, subject, &mut out_due);
