@@ -216,16 +216,19 @@ impl Yard {
         [ours.into_inner().cache.walks, theirs]
     }
 
-    /// Hits, misses, and verdicts on hits.
+    /// Hits with few and with many subjects held, misses, and verdicts on hits.
     pub fn caches(&self, rounds: usize) {
-        let all = |subjects: usize| (rounds * EACH * subjects) as u64;
-        let held = [HELD as u64; 2];
-        let walks = self.resolve("resolve held", rounds, 1024, HELD, LISTS);
-        assert_eq!(walks, held, "all but the first resolves are hits");
+        let all = (rounds * EACH * SUBJECTS) as u64;
+        for held in [HELD, SUBJECTS] {
+            let name = format!("resolve {held} held");
+            let walks = self.resolve(&name, rounds, 1024, held, LISTS);
+            assert_eq!(walks, [held as u64; 2], "all but the first are hits");
+        }
         let walks = self.resolve("resolve missed", rounds, HELD, SUBJECTS, LISTS);
-        assert_eq!(walks, [all(SUBJECTS); 2], "no resolve is a hit");
-        let walks = self.resolve("verdict held", rounds, 1024, HELD, VERDICTS);
-        assert_eq!(walks, held, "all but the first verdicts are hits");
+        assert_eq!(walks, [all; 2], "no resolve is a hit");
+        let name = format!("verdict {HELD} held");
+        let walks = self.resolve(&name, rounds, 1024, HELD, VERDICTS);
+        assert_eq!(walks, [HELD as u64; 2], "all but the first are hits");
     }
 
     /// Resolves of a list that gives most subjects more than 16 targets: the router walks for each of these, the original keeps them.

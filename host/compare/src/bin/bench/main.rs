@@ -113,7 +113,7 @@ fn main() {
         .and_then(|word| word.parse().ok())
         .unwrap_or(ROUNDS);
     println!(
-        "{:20} {:>12} {:>12} {:>6} {:>12} {:>6}",
+        "{:22} {:>12} {:>12} {:>6} {:>12} {:>6}",
         "call", "router", "original", "ratio", "known text", "ratio"
     );
     parses(rounds);

@@ -30,7 +30,7 @@ pub fn row<T>(name: &str, rounds: usize, each: usize, inputs: &[T], calls: &[Cal
 /// The line of these times, ours first.
 pub fn print(name: &str, times: &[f64]) {
     let ours = times[0];
-    print!("{name:20} {ours:9.1} ns");
+    print!("{name:22} {ours:9.1} ns");
     for theirs in &times[1..] {
         print!(" {theirs:9.1} ns {:6.2}", theirs / ours);
     }
