@@ -68,3 +68,41 @@ pub fn yard(random: &mut Random, count: usize) -> Vec<Line> {
         .map(|_| (yard_pattern(random), random.below(60) as u32))
         .collect()
 }
+
+/// The example list of a whole yard.
+const EXAMPLE: &str = include_str!("../../../examples/yard.list");
+
+/// `pattern target`, with a comment behind it or none.
+fn example_line(line: &str) -> Option<Line> {
+    let mut words = line.split_whitespace();
+    let pattern = words.next().filter(|word| !word.starts_with('#'))?;
+    let target = words.next()?.parse().ok()?;
+    Some((pattern.as_bytes().to_vec(), target))
+}
+
+/// The lines of the example list, but for those with a blank inside.
+pub fn example() -> Vec<Line> {
+    EXAMPLE.lines().filter_map(example_line).collect()
+}
+
+/// So many lines of the example list, spread evenly over it; all, if it has fewer.
+pub fn example_part(count: usize) -> Vec<Line> {
+    let lines = example();
+    let count = count.min(lines.len());
+    (0..count)
+        .map(|place| lines[place * lines.len() / count].clone())
+        .collect()
+}
+
+/// A subject that a pattern matches: `*` is a number, `>` one token or two.
+pub fn subject_of(pattern: &[u8], random: &mut Random) -> Vec<u8> {
+    let tokens = pattern
+        .split(|&byte| byte == b'.')
+        .map(|token| match token {
+            b"*" => random.below(100).to_string().into_bytes(),
+            b">" => random.pick(&["state", "axle.3"]).as_bytes().to_vec(),
+            _ => token.to_vec(),
+        });
+    let tokens: Vec<Vec<u8>> = tokens.collect();
+    tokens.join(&b'.')
+}

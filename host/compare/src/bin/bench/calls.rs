@@ -1,9 +1,8 @@
 //! The rows on a snapshot and a cache, with a yard's table.
 use crate::row::{print, row};
-use compare::lists::{self, Line};
+use compare::lists::Line;
 use compare::model_cache::{state_after, Slots};
 use compare::original_calls;
-use compare::random::Random;
 use compare::table::{List, Table};
 use oracle::binding::{self, Resolution};
 use oracle::resolve_cache::ResolveCache;
@@ -20,7 +19,7 @@ const EACH: usize = 20;
 const STORES: usize = 8;
 
 /// Different subjects; those that a cache holds in the rows on hits, which are also its slots in the row on misses.
-const SUBJECTS: usize = 500;
+pub const SUBJECTS: usize = 500;
 const HELD: usize = 40;
 
 /// A router's snapshot and cache with their areas.
@@ -115,36 +114,22 @@ fn known(text: &str) -> Subject<'_> {
     Subject::parse_literal(text).expect("a yard's subject is accepted")
 }
 
-/// So many subjects, each another.
-fn subjects(random: &mut Random, count: usize) -> Vec<String> {
-    let mut subjects = Vec::new();
-    while subjects.len() < count {
-        let subject = text(lists::yard_subject(random));
-        if !subjects.contains(&subject) {
-            subjects.push(subject);
-        }
-    }
-    subjects
-}
-
 impl Yard {
-    pub fn new(count: usize) -> Yard {
-        let mut random = Random::new(count as u64);
-        let lines: Vec<Line> = lists::yard(&mut random, count);
+    pub fn new(lines: &[Line], subjects: &[Vec<u8>]) -> Yard {
         let bytes = lines.iter().map(|(pattern, _)| pattern.len()).sum();
-        let mut list = List::with_room(count, bytes);
+        let mut list = List::with_room(lines.len(), bytes);
         let mut builder = SublistBuilder::new();
         for (pattern, target) in lines {
-            assert_eq!(list.insert(&pattern, target).number, 0);
+            assert_eq!(list.insert(pattern, *target).number, 0);
             builder
-                .insert(&text(pattern), target)
+                .insert(&text(pattern.clone()), *target)
                 .expect("a yard's pattern is accepted");
         }
         Yard {
-            count,
+            count: lines.len(),
             table: Table::build(&list, 0).expect("a yard's list is accepted"),
             builder,
-            subjects: subjects(&mut random, SUBJECTS),
+            subjects: subjects.iter().cloned().map(text).collect(),
         }
     }
 

@@ -7,7 +7,8 @@ mod row;
 mod tables;
 
 use calls::Yard;
-use compare::original;
+use compare::random::Random;
+use compare::{lists, original};
 use oracle::subject::{Subject, SubjectPattern};
 use router::raw;
 use row::row;
@@ -107,6 +108,20 @@ fn matches(rounds: usize) {
     );
 }
 
+/// Subjects that the lines match, each another; they serve for the whole list and for a part of it.
+fn subjects(lines: &[lists::Line]) -> Vec<Vec<u8>> {
+    let mut random = Random::new(200);
+    let mut subjects = Vec::new();
+    while subjects.len() < calls::SUBJECTS {
+        let (pattern, _) = &lines[random.below(lines.len())];
+        let subject = lists::subject_of(pattern, &mut random);
+        if !subjects.contains(&subject) {
+            subjects.push(subject);
+        }
+    }
+    subjects
+}
+
 fn main() {
     let rounds = std::env::args()
         .nth(1)
@@ -118,15 +133,18 @@ fn main() {
     );
     parses(rounds);
     matches(rounds);
-    for count in [200, 1_600] {
-        tables::rows(rounds, count);
+    let lists = [lists::example_part(200), lists::example()];
+    let subjects = subjects(&lists[0]);
+    for lines in &lists {
+        tables::rows(rounds, lines, &subjects);
     }
-    let [small, large] = [200, 1_600].map(Yard::new);
+    let [small, large] = [0, 1].map(|place| Yard::new(&lists[place], &subjects));
     for yard in [&small, &large] {
         yard.matches(rounds);
         yard.verdicts(rounds);
     }
-    small.caches(rounds);
-    large.long_lists(rounds);
+    large.caches(rounds);
     large.store(rounds);
+    let mut random = Random::new(1_600);
+    Yard::new(&lists::yard(&mut random, 1_600), &subjects).long_lists(rounds);
 }

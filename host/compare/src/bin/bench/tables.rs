@@ -1,8 +1,7 @@
 //! The rows on a yard's list: inserting all its lines, building the table, matching a subject in it.
 use crate::row::row;
-use compare::lists::{self, Line};
+use compare::lists::Line;
 use compare::original;
-use compare::random::Random;
 use compare::table::{List, Table};
 use oracle::sublist::SublistBuilder;
 use std::cell::RefCell;
@@ -33,20 +32,19 @@ fn their_list(lines: &[Line]) -> SublistBuilder<u32> {
     builder
 }
 
-pub fn rows(rounds: usize, count: usize) {
-    let mut random = Random::new(count as u64);
-    let lines = lists::yard(&mut random, count);
+pub fn rows(rounds: usize, lines: &[Line], subjects: &[Vec<u8>]) {
+    let count = lines.len();
     row(
         &format!("insert {count}"),
         rounds,
         BUILDS,
-        &[&lines[..]],
+        &[lines],
         &[&|lines| inserted(lines).entries() as u64, &|lines| {
             black_box(their_list(lines));
             0
         }],
     );
-    let (list, their_list) = (inserted(&lines), their_list(&lines));
+    let (list, their_list) = (inserted(lines), their_list(lines));
     let build = || Table::build(&list, 0).expect("a yard's list is accepted");
     let build_theirs = || their_list.build(0).expect("a yard's list is accepted");
     row(
@@ -59,13 +57,12 @@ pub fn rows(rounds: usize, count: usize) {
         }],
     );
     let (table, theirs) = (build(), build_theirs());
-    let subjects: Vec<Vec<u8>> = (0..500).map(|_| lists::yard_subject(&mut random)).collect();
     let out = RefCell::new((vec![0; count], Vec::with_capacity(count)));
     row(
         &format!("match {count}"),
         rounds,
         MATCHES,
-        &subjects,
+        subjects,
         &[
             &|subject| table.match_subject(subject, &mut out.borrow_mut().0).first,
             &|subject| original::match_subject(&theirs, subject, &mut out.borrow_mut().1).first,
