@@ -1,34 +1,41 @@
--- Parts of lists as the loops go through them: what is left of a frontier, what has been copied.
+-- Parts of lists as the loops go through them: what has been read of a frontier, what has been copied.
 use Prim.Native.Nat.{ℕ, suc, _+_, _-_, _≤_, _<_}
 use native.Mathlib.Nat.{add-suc, suc-add, add-zero, zero-add}
 use native.Mathlib.Numerals.{add-one}
 use native.Mathlib.Omega.{arith}
 use mathlib.Core.Path.{_≡_, refl, sym, _∙_}
-use mathlib.Core.Bool.{true, false}
+use mathlib.Core.Bool.{Bool, true, false}
 use mathlib.Core.List.{List, [], _∷_, _++_}
-use lib.ListN.{length, getD, take, drop, set, drop-of-length-le}
-use lib.Seq.{length-take-le, take-suc, take-suc-set, drop-cons, getD-take, set-out, sets}
+use lib.Dec.{eqb}
+use lib.ListN.{length, getD, take, set}
+use lib.Seq.{take-suc, drop-cons, set-out, sets}
 use borrow.Author.Tests.{eq-eqb, ne-eqb}
+use Rattle.subject.specs.Choice.{or}
 use Rattle.sublist_walk.specs.Walk.{part, among}
 
--- what is left of the first n elements behind the first i
-pub left-none : (l : List ℕ) (n i : ℕ) → n ≤ length l → n ≤ i → drop i (take n l) ≡ []
-left-none l n i h k = drop-of-length-le (take n l) {i = i} (rw (length-take-le n l h) k)
+or-true : (b : Bool) → or b true ≡ true
+or-true true = refl
+or-true false = refl
 
-pub left-some : (l : List ℕ) (n i : ℕ) → n ≤ length l → i < n → drop i (take n l) ≡ getD l i 0 ∷ drop (i + 1) (take n l)
-left-some l n i h k = drop-cons (take n l) i 0 (rw (length-take-le n l h) k) ∙ rw (getD-take n l i 0 k, add-one)
+or-false : (b : Bool) → or b false ≡ b
+or-false true = refl
+or-false false = refl
 
--- whether a number stands among what is left
-module _ (l : List ℕ) (n i j : ℕ) (h : n ≤ length l) where
-  pub among-end : n ≤ i → among j (drop i (take n l)) ≡ false
-  among-end k = rw (left-none l n i h k)
+among-snoc : (j : ℕ) (xs : List ℕ) (x : ℕ) → among j (xs ++ (x ∷ [])) ≡ or (among j xs) (eqb j x)
+among-snoc j [] x = or-false (eqb j x)
+among-snoc j (y ∷ xs) x = go (eqb j y) (among-snoc j xs x)
+  where
+    go : (b : Bool) → among j (xs ++ (x ∷ [])) ≡ or (among j xs) (eqb j x) → or b (among j (xs ++ (x ∷ []))) ≡ or (or b (among j xs)) (eqb j x)
+    go true e = refl
+    go false e = e
 
-  module _ (k : i < n) where
-    pub among-here : getD l i 0 ≡ j → among j (drop i (take n l)) ≡ true
-    among-here e = rw (left-some l n i h k, eq-eqb j (getD l i 0) (sym e))
+-- whether a number stands among the first elements, one more of them
+module _ (l : List ℕ) (i j : ℕ) (h : i < length l) where
+  pub among-here : getD l i 0 ≡ j → among j (take (i + 1) l) ≡ true
+  among-here e = rw (add-one i, take-suc l i 0 h, among-snoc j (take i l) (getD l i 0), eq-eqb j (getD l i 0) (sym e)) (or-true (among j (take i l)))
 
-    pub among-next : (getD l i 0 ≡ j → ⊥) → among j (drop (i + 1) (take n l)) ≡ among j (drop i (take n l))
-    among-next e = rw (left-some l n i h k, ne-eqb j (getD l i 0) (λ x. e (sym x)))
+  pub among-other : (getD l i 0 ≡ j → ⊥) → among j (take (i + 1) l) ≡ among j (take i l)
+  among-other e = rw (add-one i, take-suc l i 0 h, among-snoc j (take i l) (getD l i 0), ne-eqb j (getD l i 0) (λ x. e (sym x))) (or-false (among j (take i l)))
 
 -- a run of stores outside a list changes nothing
 pub sets-out : (l : List ℕ) (at : ℕ) (vs : List ℕ) → length l ≤ at → sets l at vs ≡ l
@@ -57,7 +64,3 @@ module _ (out ts : List ℕ) (at start count i : ℕ) (x : List ℕ) (e : sets o
       let z : count - i ≡ suc (count - (i + 1)) = omega arith in
       let l : start + i < length ts = omega arith in
       rw (add-one i, add-suc at i, add-suc start i, ← add-one i) (rw (z, drop-cons ts (start + i) 0 l) at e)
-
--- one more element copied
-pub copy-next : (l next : List ℕ) (i : ℕ) → i < length l → i < length next → take i l ≡ take i next → take (i + 1) (set l i (getD next i 0)) ≡ take (i + 1) next
-copy-next l next i h k e = rw (add-one i, take-suc-set l i (getD next i 0) h, take-suc next i 0 k, e)

@@ -193,12 +193,14 @@ module _ (k : ℕ) (a : List ℕ) (n m : ℕ) (ts : List ℕ) (h : ℕ) where
     visits-next q =
         rw (add-one i, take-suc l i 0 q, visits-append (level [] []) (take i l) (getD l i 0 ∷ []), w .is) (visit-through next (w .list) (getD l i 0))
 
-    pub next-on : i < length l → (k1 : ℕ) → k1 ≡ k → (next1 : List ℕ) (size1 : ℕ) (after : List ℕ) → Listed (visit k1 a n m ts h (level next []) (getD l i 0)) next1 size size1 1 now after
-        → Listed (visits k a n m ts h (level [] []) (take (i + 1) l)) next1 at size1 (i + 1) out after
+    -- limit, frontier and node as a call names them: k1, `lent` and j; next2 is the frontier next1, as it is found afterwards
+    pub next-on : i < length l → (k1 : ℕ) → k1 ≡ k → (lent : List ℕ) → lent ≡ next → (j : ℕ) → j ≡ getD l i 0 → (next1 next2 : List ℕ) → next1 ≡ next2 → (size1 : ℕ) (after : List ℕ)
+        → Listed (visit k1 a n m ts h (level lent []) j) next1 size size1 1 now after
+        → Listed (visits k a n m ts h (level [] []) (take (i + 1) l)) next2 at size1 (i + 1) out after
     unfolding behind
-    next-on q k1 g next1 size1 after u =
-        let v = (rw g at u) in
-        joined _ _ _ next next1 at size size1 i 1 out now after w v (visits-next q ∙ rw (v .is))
+    next-on q k1 g lent f j e next1 next2 c size1 after u =
+        let v = (rw (g, f, e, c) at u) in
+        joined _ _ _ next next2 at size size1 i 1 out now after w v (visits-next q ∙ rw (v .is))
 
     module _ (c : ℕ) (q : i < c) (r : c ≤ length l) where
       visits-split : visits k a n m ts h (level [] []) (take c l) ≡ visits k a n m ts h (behind (w .list) (visit k a n m ts h (level next []) (getD l i 0))) (drop (suc i) (take c l))
@@ -209,13 +211,13 @@ module _ (k : ℕ) (a : List ℕ) (n m : ℕ) (ts : List ℕ) (h : ℕ) where
           ∙ ap (λ s. visits k a n m ts h (visit k a n m ts h s (getD l i 0)) (drop (suc i) (take c l))) (w .is)
           ∙ ap (λ s. visits k a n m ts h s (drop (suc i) (take c l))) (visit-through next (w .list) (getD l i 0))
 
-      pub next-wide : (k1 : ℕ) → k1 ≡ k → visit k1 a n m ts h (level next []) (getD l i 0) ≡ wide → visits k a n m ts h (level [] []) (take c l) ≡ wide
+      pub next-wide : (k1 : ℕ) → k1 ≡ k → (lent : List ℕ) → lent ≡ next → (j : ℕ) → j ≡ getD l i 0 → visit k1 a n m ts h (level lent []) j ≡ wide → visits k a n m ts h (level [] []) (take c l) ≡ wide
       unfolding behind
-      next-wide k1 g e = visits-split ∙ rw (rw g at e) (visits-wide (drop (suc i) (take c l)))
+      next-wide k1 g lent f j d e = visits-split ∙ rw (rw (g, f, d) at e) (visits-wide (drop (suc i) (take c l)))
 
-      pub next-damaged : (k1 : ℕ) → k1 ≡ k → visit k1 a n m ts h (level next []) (getD l i 0) ≡ damaged → visits k a n m ts h (level [] []) (take c l) ≡ damaged
+      pub next-damaged : (k1 : ℕ) → k1 ≡ k → (lent : List ℕ) → lent ≡ next → (j : ℕ) → j ≡ getD l i 0 → visit k1 a n m ts h (level lent []) j ≡ damaged → visits k a n m ts h (level [] []) (take c l) ≡ damaged
       unfolding behind
-      next-damaged k1 g e = visits-split ∙ rw (rw g at e) (visits-damaged (drop (suc i) (take c l)))
+      next-damaged k1 g lent f j d e = visits-split ∙ rw (rw (g, f, d) at e) (visits-damaged (drop (suc i) (take c l)))
 
 module _ (k : ℕ) (a : List ℕ) (n m : ℕ) (ts : List ℕ) where
   exact-append : (s : Level) (is js : List ℕ) → exact k a n m ts s (is ++ js) ≡ exact k a n m ts (exact k a n m ts s is) js
@@ -270,12 +272,3 @@ module _ (k : ℕ) (a : List ℕ) (n m : ℕ) (ts : List ℕ) where
         ∙ ap (λ s. exact k a n m ts (collect a m ts 4 (getD l i 0) s) (drop (suc i) (take c l))) (w .is)
         ∙ ap (λ s. exact k a n m ts s (drop (suc i) (take c l))) (outside-too a m ts 4 (getD l i 0) [] (w .list) e)
         ∙ exact-damaged (drop (suc i) (take c l))
-
--- the visits of a frontier, as two calls name limit and hash
-module _ (k1 k : ℕ) (g : k1 ≡ k) (h1 h : ℕ) (e : h1 ≡ h) (a : List ℕ) (n m : ℕ) (ts : List ℕ) (s : Level) (is : List ℕ) where
-  pub visits-same : visits k a n m ts h s is ≡ visits k1 a n m ts h1 s is
-  visits-same = rw (g, e)
-
-  pub visits-copied : (next next1 : List ℕ) (at size i : ℕ) (out after : List ℕ) → next1 ≡ next → Listed (visits k1 a n m ts h1 s is) next at size i out after
-      → Listed (visits k a n m ts h s is) next1 at size i out after
-  visits-copied next next1 at size i out after c w = rw (c, ← g, ← e) w

@@ -4,13 +4,13 @@ use native.Mathlib.Omega.{arith}
 use mathlib.Core.Path.{_≡_, refl, sym, _∙_}
 use mathlib.Core.Bool.{true, false}
 use mathlib.Core.List.{List, [], _∷_, _++_, map}
-use lib.ListN.{length, take, drop, set, length-append}
+use lib.ListN.{length, take, set, length-append}
 use lib.Seq.{take-suc-set, sets}
 use Rattle.subject.specs.Text.{tokens}
 use Rattle.subject.specs.Fnv.{fnv}
 use Rattle.subject.specs.Reading.{dotFrom, tokensFrom}
 use Rattle.subject.proofs.Positions.{tokens-start, tokens-next, tokens-end}
-use Rattle.sublist_walk.specs.Walk.{level, wide, damaged, at, tooWide, broken, Walked, failed, visits, arrived, onToken, onTokens, exact, listed, ended, walkOver}
+use Rattle.sublist_walk.specs.Walk.{part, level, wide, damaged, at, tooWide, broken, Walked, failed, visits, arrived, onToken, onTokens, exact, listed, ended, walkOver}
 use Rattle.sublist_walk.specs.Told.{Listed, Finds}
 use Rattle.sublist_walk.proofs.Parts.{sets-behind}
 use Rattle.sublist_walk.proofs.Visits.{all-wide, all-damaged, all-on, exact-any, exact-listed, exact-failed}
@@ -24,9 +24,9 @@ pub record Under (w : Walked) (k : ℕ) (a : List ℕ) (n m : ℕ) (ts front : L
   pub stored : now ≡ sets out 0 list
 
 -- the hashes left from a place on
-pub hashes-next : (subject : List ℕ) (place end : ℕ) → end ≡ dotFrom subject place → place ≤ length subject
-    → map fnv (tokensFrom subject place) ≡ fnv (take (end - place) (drop place subject)) ∷ map fnv (tokensFrom subject (end + 1))
-hashes-next subject place end e h = rw (e, tokens-next subject place h)
+pub hashes-next : (subject : List ℕ) (place end h : ℕ) → end ≡ dotFrom subject place → h ≡ fnv (part subject place (end - place)) → place ≤ length subject
+    → map fnv (tokensFrom subject place) ≡ h ∷ map fnv (tokensFrom subject (end + 1))
+hashes-next subject place end h e f l = rw (f, e, tokens-next subject place l)
 
 pub hashes-end : (subject : List ℕ) (place : ℕ) → length subject < place → map fnv (tokensFrom subject place) ≡ []
 hashes-end subject place h = rw (tokens-end subject place h)
@@ -96,21 +96,25 @@ module _ (k : ℕ) (a : List ℕ) (n m : ℕ) (ts : List ℕ) where
       unfolding onTokens onToken
       next = rw some at (u .same)
 
-      pub goes-wide : visits k a n m ts h (level [] []) front ≡ wide → w ≡ failed true
-      unfolding arrived ended
-      goes-wide e = sym next ∙ rw (all-wide k a n m ts h (u .list) front e, tokens-wide rest)
+      -- limit and frontier as a call names them: k1 and front0
+      module _ (k1 : ℕ) (g : k1 ≡ k) where
+        pub goes-wide : visits k1 a n m ts h (level [] []) front ≡ wide → w ≡ failed true
+        unfolding arrived ended
+        goes-wide e = sym next ∙ rw (all-wide k a n m ts h (u .list) front (rw g at e), tokens-wide rest)
 
-      pub goes-damaged : visits k a n m ts h (level [] []) front ≡ damaged → w ≡ failed false
-      unfolding arrived ended
-      goes-damaged e = sym next ∙ rw (all-damaged k a n m ts h (u .list) front e, tokens-broken rest)
+        pub goes-damaged : visits k1 a n m ts h (level [] []) front ≡ damaged → w ≡ failed false
+        unfolding arrived ended
+        goes-damaged e = sym next ∙ rw (all-damaged k a n m ts h (u .list) front (rw g at e), tokens-broken rest)
 
-      pub goes-on : (front1 : List ℕ) (peak1 size1 place1 i : ℕ) (after : List ℕ) → Listed (visits k a n m ts h (level [] []) front) front1 size size1 i now after
-          → peak1 ≡ max peak (length front1) → i ≤ 1024 → place < place1 → Under w k a n m ts front1 peak1 size1 place1 rest out after
-      unfolding arrived
-      goes-on front1 peak1 size1 place1 i after v p b q = record {
-        list = u .list ++ v .list;
-        same = rw p (rw (all-on k a n m ts h (u .list) front front1 (v .list) (v .is)) at next);
-        sized = rw (length-append (u .list) (v .list)) (let x = u .sized in let y = v .sized in omega arith);
-        most = let x = u .most in let y = v .most in omega arith;
-        stored = v .stored ∙ rw (u .sized, u .stored) (sym (sets-behind out (u .list) (v .list)));
-      }
+        pub goes-on : (front0 front1 : List ℕ) → front0 ≡ front1 → (peak1 size1 place1 i : ℕ) (after : List ℕ) → Listed (visits k1 a n m ts h (level [] []) front) front0 size size1 i now after
+            → peak1 ≡ max peak (length front1) → i ≤ 1024 → place < place1 → Under w k a n m ts front1 peak1 size1 place1 rest out after
+        unfolding arrived
+        goes-on front0 front1 c peak1 size1 place1 i after v0 p b q =
+            let v = (rw (g, c) at v0) in
+            record {
+              list = u .list ++ v .list;
+              same = rw p (rw (all-on k a n m ts h (u .list) front front1 (v .list) (v .is)) at next);
+              sized = rw (length-append (u .list) (v .list)) (let x = u .sized in let y = v .sized in omega arith);
+              most = let x = u .most in let y = v .most in omega arith;
+              stored = v .stored ∙ rw (u .sized, u .stored) (sym (sets-behind out (u .list) (v .list)));
+            }

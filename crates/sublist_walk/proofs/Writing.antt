@@ -1,28 +1,28 @@
--- What the two walks of a match, the counts and the subject's parse make of the call's outcome.
+-- What the walks of a match, the counts and the subject's parse make of the call's outcome.
 use Prim.Native.Nat.{ℕ, _*_, _/_, _≤_, _<_}
 use native.Mathlib.Nat.{zero-add}
 use native.Mathlib.Omega.{arith}
 use mathlib.Core.Path.{_≡_, refl, sym, _∙_, ap}
 use mathlib.Core.Bool.{Bool, true, false}
 use mathlib.Core.Option.{none}
-use mathlib.Core.List.{List, [], _∷_, _++_, map}
+use mathlib.Core.List.{List, [], _∷_, map}
 use lib.Dec.{eqb, ltb, leb}
-use lib.ListN.{length}
-use lib.Seq.{sets, sets-eq}
+use lib.ListN.{length, drop}
+use lib.Seq.{sets, sets-eq, length-sets, take-append-seam}
 use borrow.Author.Tests.{lt-ltb, le-ltb, le-leb, lt-leb, ltb-false, leb-true}
 use Rattle.subject.specs.Choice.{pick, and}
 use Rattle.subject.specs.Text.{tokens}
 use Rattle.subject.specs.Fnv.{fnv}
 use Rattle.subject.specs.Utf8.{firstBad}
-use Rattle.subject.specs.Answers.{Answer, answer, refusal, parsed, unless, whenAccepted}
+use Rattle.subject.specs.Answers.{answer, refusal, parsed, unless}
 use Rattle.subject.specs.Grammar.{check, notUtf8, grammar}
 use Rattle.subject.specs.declared.SubjectError.{SubjectError}
 use Rattle.subject.specs.declared.SubjectError.the-variants.{TooLong, NotUtf8, Empty, TailWildcardNotLast, TooDeep, EmptyToken, WildcardNotAllowed, ControlChar, IllegalChar}
 use Rattle.subject.specs.declared.Parsed.{Parsed}
 use Rattle.subject.specs.declared.Parsed.the-variants.{Accepted, Refused}
-use Rattle.sublist_walk.specs.Walk.{Walked, found, walkOver}
+use Rattle.sublist_walk.specs.Walk.{part, Walked, found, failed, walkOver}
 use Rattle.sublist_walk.specs.Matching.{Outcome, outcome, over, countsFit, written, ifSubject, matchTable}
-use Rattle.sublist_walk.specs.Told.{Finds, Ends}
+use Rattle.sublist_walk.specs.Told.{Finds, Ends, Holding, Wrote}
 use Rattle.sublist_walk.specs.declared.Walked as declared
 use Rattle.sublist_walk.specs.declared.Walked.the-variants as walked
 
@@ -30,21 +30,21 @@ use Rattle.sublist_walk.specs.declared.Walked.the-variants as walked
 pub limit-same : (k1 k : ℕ) (a : List ℕ) (n m : ℕ) (ts hs : List ℕ) → k1 ≡ k → walkOver k1 a n m ts hs ≡ walkOver k a n m ts hs
 limit-same k1 k a n m ts hs e = rw e
 
-none-left : (l : List ℕ) → length l ≡ 0 → l ≡ []
-none-left [] e = refl
-none-left (x ∷ l) e = absurd (omega arith)
-
 -- as many places are written as the list has
 sets-over : (list out : List ℕ) → length list ≤ length out → sets out 0 list ≡ over list out
 sets-over list out h = rw zero-add at (sets-eq list out 0 (omega arith))
 
--- w2 is the same walk again: what a second call leaves is the list, as far as the output goes
-again : (list : List ℕ) (peak : ℕ) (out after : List ℕ) (w2 : Walked) → w2 ≡ found list peak → (r : declared.Walked) → Ends r out after w2 → after ≡ sets out 0 list
-again list peak out after w2 e (walked.Found size peak2) v =
+-- what a walk leaves is its list, as far as the output goes
+pub walk-wrote : (w : Walked) (r : declared.Walked) (out after : List ℕ) → Ends r out after w → Wrote w out after
+walk-wrote w (walked.Found size peak2) out after v list peak e =
     let s : v .list ≡ list = cc (v .is, e) in
     v .stored ∙ rw s
-again list peak out after w2 e walked.Wide v = let z : _≡_ {A = ℕ} 0 1 = cc in absurd (omega arith)
-again list peak out after w2 e walked.Damaged v = let z : _≡_ {A = ℕ} 0 1 = cc in absurd (omega arith)
+walk-wrote w walked.Wide out after v list peak e = let z : _≡_ {A = ℕ} 0 1 = cc in absurd (omega arith)
+walk-wrote w walked.Damaged out after v list peak e = let z : _≡_ {A = ℕ} 0 1 = cc in absurd (omega arith)
+
+-- so is what a copy of it leaves
+pub copy-wrote : (w : Walked) (count : ℕ) (list out after : List ℕ) → Holding w count list → count ≤ length list → after ≡ sets out 0 (part list 0 count) → Wrote w out after
+copy-wrote w count list out after h fits e l peak f = e ∙ ap (sets out 0) (h l peak f .1 fits)
 
 -- a list that is longer than the output, and one that is not
 module _ (list : List ℕ) (peak size : ℕ) (out : List ℕ) where
@@ -55,29 +55,38 @@ module _ (list : List ℕ) (peak size : ℕ) (out : List ℕ) where
       → outcome (answer 0 (size ∷ peak ∷ [])) after ≡ written (found list peak) out
   found-whole after e h s = rw (le-ltb (length out) (length list) (omega arith), s, sets-over list out (omega arith), e)
 
--- the first walk wrote nothing: `part` is what it was lent of the output, and nothing
-module _ (w w1 : Walked) (q : w1 ≡ w) (r : declared.Walked) (lent part out : List ℕ) (v : Ends r lent part w1) (z : length part ≡ 0) where
-  pub wide-19 : r ≡ walked.Wide → outcome (answer 19 []) (part ++ out) ≡ written w out
-  wide-19 e = rw (none-left part z, ← q, (rw e at v))
+-- a walk w that wrote to `list`, `before` until then. The match's walk is W: the same, unless w passed its limit
+module _ (w W : Walked) (kept : (w ≡ failed true → ⊥) → W ≡ w) (r : declared.Walked) (before list : List ℕ) (v : Ends r before list w) (out : List ℕ) where
+  pub wide-19 : W ≡ w → r ≡ walked.Wide → outcome (answer 19 []) out ≡ written W out
+  wide-19 q e = rw (q, (rw e at v))
 
-  pub damaged-19 : r ≡ walked.Damaged → outcome (answer 19 []) (part ++ out) ≡ written w out
-  damaged-19 e = rw (none-left part z, ← q, (rw e at v))
+  pub damaged-19 : r ≡ walked.Damaged → outcome (answer 19 []) out ≡ written W out
+  damaged-19 e =
+      let d : w ≡ failed false = (rw e at v) in
+      rw (kept (λ f. let z : _≡_ {A = ℕ} 0 1 = cc in omega arith), d)
 
   module _ (size peak : ℕ) (e : r ≡ walked.Found size peak) where
-    finds : Finds w1 size peak lent part
+    finds : Finds w size peak before list
     finds = rw e at v
 
-    pub short-21 : length (part ++ out) < size → outcome (answer 21 (size ∷ [])) (part ++ out) ≡ written w out
-    short-21 h =
-        let n = none-left part z in
-        rw (n, ← q, finds .is) (found-short (finds .list) peak size out (finds .sized) (rw n at h))
+    is-found : W ≡ found (finds .list) peak
+    is-found = let d = finds .is in kept (λ f. let z : _≡_ {A = ℕ} 0 1 = cc in omega arith) ∙ d
 
-    pub listed-0 : size ≤ length (part ++ out) → (w2 : Walked) → w2 ≡ w → (r2 : declared.Walked) (after : List ℕ) → Ends r2 (part ++ out) after w2
-        → outcome (answer 0 (size ∷ peak ∷ [])) after ≡ written w out
-    listed-0 h w2 q2 r2 after u =
-        let n = none-left part z in
-        rw (← q, finds .is)
-        (found-whole (finds .list) peak size out after (finds .sized) (rw n at h) (again (finds .list) peak out after w2 (q2 ∙ sym q ∙ finds .is) r2 (rw n at u)))
+    pub short-21 : length out < size → outcome (answer 21 (size ∷ [])) out ≡ written W out
+    short-21 h = rw is-found (found-short (finds .list) peak size out (finds .sized) h)
+
+    -- the walk w, as another call names it
+    module _ (w2 : Walked) (q : w2 ≡ w) where
+      pub holding : Holding w2 size list
+      holding l peak2 f =
+          let d : finds .list ≡ l = cc (finds .is) in
+          let n : size ≡ length l = finds .sized ∙ ap length d in (
+            n,
+            λ h. rw (finds .stored, d, n) (rw (sets-over l before (omega (arith, h, n, ap length (finds .stored), length-sets before 0 (finds .list)))) (take-append-seam l (drop (length l) before))),
+          )
+
+      pub listed-0 : size ≤ length out → (after : List ℕ) → Wrote w2 out after → outcome (answer 0 (size ∷ peak ∷ [])) after ≡ written W out
+      listed-0 h after u = rw is-found (found-whole (finds .list) peak size out after (finds .sized) h (u (finds .list) peak (q ∙ finds .is)))
 
 -- the counts
 module _ (n m : ℕ) (a ts : List ℕ) where
@@ -99,18 +108,7 @@ module _ (n m : ℕ) (a ts : List ℕ) where
       go true false t = let z : _≡_ {A = ℕ} 0 1 = cc in absurd (omega arith)
       go false y t = let z : _≡_ {A = ℕ} 0 1 = cc in absurd (omega arith)
 
--- a refused subject: its refusal stands, and the output stays
-pub refusal-stands : (e : SubjectError) (after : Answer) → refusal e ≡ whenAccepted (refusal e) after
-refusal-stands TooLong after = refl
-refusal-stands (NotUtf8 i) after = refl
-refusal-stands Empty after = refl
-refusal-stands (TailWildcardNotLast i) after = refl
-refusal-stands (TooDeep d) after = refl
-refusal-stands (EmptyToken i) after = refl
-refusal-stands (WildcardNotAllowed b i) after = refl
-refusal-stands (ControlChar b i) after = refl
-refusal-stands (IllegalChar b i) after = refl
-
+-- a refused subject leaves the output
 refusal-leaves : (e : SubjectError) (out : List ℕ) (after : Outcome) → outcome (refusal e) out ≡ ifSubject (refusal e) out after
 refusal-leaves TooLong out after = refl
 refusal-leaves (NotUtf8 i) out after = refl
@@ -123,9 +121,9 @@ refusal-leaves (ControlChar b i) out after = refl
 refusal-leaves (IllegalChar b i) out after = refl
 
 module _ (n m : ℕ) (a ts subject out : List ℕ) (text : Parsed) (p : parsed text ≡ grammar false subject) where
-  pub subject-refused : (e : SubjectError) → text ≡ Refused e → (x : Answer) → x ≡ whenAccepted (parsed text) (answer 19 []) → outcome x out ≡ matchTable n m a ts subject out
+  pub subject-refused : (e : SubjectError) → text ≡ Refused e → outcome (refusal e) out ≡ matchTable n m a ts subject out
   unfolding matchTable
-  subject-refused e t x s = rw (s, ← p, t) (ap (λ y. outcome y out) (sym (refusal-stands e (answer 19 []))) ∙ refusal-leaves e out _)
+  subject-refused e t = rw (← p, t) (refusal-leaves e out _)
 
   module _ (c : ℕ) (t : text ≡ Accepted c) where
     -- 1 did not apply

@@ -2,6 +2,7 @@
 use Prim.Native.Nat.{ℕ, _+_, _*_, _≤_}
 use mathlib.Core.Path.{_≡_}
 use mathlib.Core.Bool.{true, false}
+use mathlib.Core.Logic.{_⊎_}
 use mathlib.Core.List.{List, []}
 use lib.ListN.{length, take}
 use lib.Seq.{sets}
@@ -35,6 +36,10 @@ within (front.Upto n) k = n ≤ k
 within front.Wide k = Unit {0}
 within front.Damaged k = Unit {0}
 
+-- two frontiers take turns: each stands from the first place on, or behind k places
+abbrev pub Turn : ℕ → ℕ → Type 0
+Turn from k = (from ≡ 0) ⊎ (from ≡ k)
+
 -- the level s has the frontier `next` and a list. Behind the `at` targets before it the list makes `size`, at most 2^32 more for each node read,
 -- and the output, `out` before and `after` now, holds it from place `at` on, as far as that goes.
 pub record Listed (s : Level) (next : List ℕ) (at size nodes : ℕ) (out after : List ℕ) : Type 0 where
@@ -64,3 +69,11 @@ abbrev pub Ends : declared.Walked → List ℕ → List ℕ → Walked → Type 
 Ends (walked.Found size peak) out after w = Finds w size peak out after
 Ends walked.Wide out after w = w ≡ failed true
 Ends walked.Damaged out after w = w ≡ failed false
+
+-- the list that the walk w finds has `count` targets, and `list` begins with it if it has room for it
+abbrev pub Holding : Walked → ℕ → List ℕ → Type 0
+Holding w count list = (l : List ℕ) (peak : ℕ) → w ≡ found l peak → (count ≡ length l) × (count ≤ length list → take count list ≡ l)
+
+-- the output holds the list that the walk w finds from the first place on, as far as that goes
+abbrev pub Wrote : Walked → List ℕ → List ℕ → Type 0
+Wrote w out after = (l : List ℕ) (peak : ℕ) → w ≡ found l peak → after ≡ sets out 0 l

@@ -1,15 +1,16 @@
 // The walk of a subject over a table, and the match. A table is lent as counts and areas, any counts and any words.
 ghost use mathlib.Core.Path.{_≡_};
 ghost use mathlib.Core.List.{[], map};
-ghost use Prim.Native.Nat.{_+_, _≤_, _<_, _^_, max};
+ghost use Prim.Native.Nat.{_+_, _-_, _*_, _/_, _%_, _≤_, _<_, _^_, max};
+ghost use lib.Bits.{bitXor};
 ghost use lib.ListN.{length, take, getD};
 ghost use lib.Seq.{sets};
 ghost use Rattle.sublist_walk.specs.Walk.{part, among, level, collect, push, visit, visits, exact, walkOver};
 ghost use Rattle.sublist_area.specs.Words.{literalChild, starChild};
-ghost use Rattle.sublist_walk.specs.Told.{missed, fronted, within, Lists, Reaches, Ends};
+ghost use Rattle.sublist_walk.specs.Told.{missed, fronted, within, Turn, Lists, Reaches, Ends, Holding, Wrote};
 ghost use Rattle.subject.specs.Text.{tokens};
+ghost use Rattle.subject.specs.Reading.{dotFrom};
 ghost use Rattle.subject.specs.Fnv.{fnv};
-ghost use Rattle.subject.specs.Answers.{answer, parsed, whenAccepted};
 ghost use Rattle.sublist_walk.specs.Matching.{outcome, matchAnswer, countsFit, written, matchTable};
 use subject::Parsed;
 use subject::SubjectError;
@@ -17,6 +18,14 @@ use sublist_area::Child;
 
 // The most nodes that a frontier may hold.
 pub const MAX_FORK_FRONTIER: usize = 1024;
+
+// Most matches stay within so many nodes in a frontier and so many targets: small arrays serve them.
+const NARROW_FRONTIER: usize = 32;
+
+const SHORT_LIST: usize = 64;
+
+// The targets that a match with wider frontiers may have and be settled by one walk.
+const LONG_LIST: usize = 1024;
 
 // A list's length and the largest frontier, or why a match turns back.
 pub enum TableMatch {
@@ -53,6 +62,12 @@ enum Walked {
     Damaged,
 }
 
+// A token by its hash and the position behind its last byte.
+struct Hashed {
+    hash: u64,
+    end: usize,
+}
+
 fn wide(x: u32) -> usize
     ensures { λ r. ⌜ r ≡ x ⌝ }
 {
@@ -75,19 +90,20 @@ fn word_at(area: &[u32], at: usize) -> usize
     0
 }
 
-// Whether a node stands among the first n of a frontier.
+// Whether a node stands among the first n of a frontier. All n are read: a loop with one way out compares several at once.
 fn stands(front: &[u32], n: usize, id: u32) -> bool
     requires { ⌜ n ≤ length (now front) ⌝ }
     ensures { λ r. ⌜ r ≡ among id (take n (now (front .entry))) ⌝ }
 {
+    let mut seen = false;
     let mut i = 0;
     while i < n {
         if front[i] == id {
-            return true;
+            seen = true;
         }
         i += 1;
     }
-    false
+    seen
 }
 
 // A lookup that found no node: the frontier stays, unless the area made no sense.
@@ -131,18 +147,6 @@ fn copy_targets(targets: &[u32], start: usize, count: usize, out: &mut [u32], at
             return;
         }
         out[at + i] = targets[start + i];
-        i += 1;
-    }
-}
-
-// The first n nodes of a frontier are copied.
-fn copy_front(next: &[u32], n: usize, front: &mut [u32])
-    requires { ⌜ (n ≤ length (now next)) × (n ≤ length (now front)) ⌝ }
-    ensures { λ _. ⌜ take n (now (front .exit)) ≡ take n (now (next .entry)) ⌝ }
-{
-    let mut i = 0;
-    while i < n {
-        front[i] = next[i];
         i += 1;
     }
 }
@@ -217,34 +221,34 @@ fn visit(
     }
 }
 
-// The first n nodes of a frontier in turn, with a token's hash, behind a list of `at` targets.
+// The n nodes from place `from` on in turn, with a token's hash, behind a list of `at` targets. Each frontier has a half of `both`: the next one stands in the other half.
 fn visit_front(
     area: &[u32],
     nodes: usize,
     targets: usize,
     store: &[u32],
     hash: u64,
-    from: &[u32],
+    both: &mut [u32],
+    from: usize,
     n: usize,
-    to: &mut [u32],
     out: &mut [u32],
     at: usize,
 ) -> Step
-    requires { ⌜ (n ≤ length (now from)) × (n ≤ 1024) × (targets ≤ length (now store)) × (at < 2 ^ 62) ⌝ }
-    ensures { λ r. ⌜ Reaches r (now (to .exit)) (now (out .entry)) (now (out .exit)) at n (visits (length (now (to .entry))) (now (area .entry)) nodes targets (now (store .entry)) hash (level [] []) (take n (now (from .entry)))) ⌝ }
+    requires { ⌜ Turn from (length (now both) / 2) × (n ≤ length (now both) / 2) × (n ≤ 1024) × (targets ≤ length (now store)) × (at < 2 ^ 62) ⌝ }
+    ensures { λ r. ⌜ Reaches r (part (now (both .exit)) (length (now (both .entry)) / 2 - from) (length (now (both .entry)) / 2)) (now (out .entry)) (now (out .exit)) at n (visits (length (now (both .entry)) / 2) (now (area .entry)) nodes targets (now (store .entry)) hash (level [] []) (part (now (both .entry)) from n)) ⌝ }
 {
+    let limit = both.len() / 2;
+    let start = limit - from;
+    let end = start + limit;
     let mut i = 0;
     let mut next = 0;
     let mut size = at;
     while i < n {
-        let node = from[i];
+        let node = both[from + i];
+        let to = &mut both[start..end];
         match visit(area, nodes, targets, store, hash, node, to, next, out, size) {
-            Step::Wide => {
-                return Step::Wide;
-            }
-            Step::Damaged => {
-                return Step::Damaged;
-            }
+            Step::Wide => return Step::Wide,
+            Step::Damaged => return Step::Damaged,
             Step::On { front, length } => {
                 next = front;
                 size = length;
@@ -285,49 +289,47 @@ fn collect_exact(
     Collected::Upto(size)
 }
 
-// One token further: the next frontier takes the place of the first n nodes of `from`.
-fn pass_token(
-    area: &[u32],
-    nodes: usize,
-    targets: usize,
-    store: &[u32],
-    token: &[u8],
-    from: &mut [u32],
-    n: usize,
-    to: &mut [u32],
-    out: &mut [u32],
-    at: usize,
-) -> Step
-    requires { ⌜ (n ≤ length (now from)) × (length (now from) ≤ 1024) × (length (now to) ≡ length (now from)) × (targets ≤ length (now store)) × (at < 2 ^ 62) ⌝ }
-    ensures { λ r. ⌜ Reaches r (now (from .exit)) (now (out .entry)) (now (out .exit)) at n (visits (length (now (from .entry))) (now (area .entry)) nodes targets (now (store .entry)) (fnv (now (token .entry))) (level [] []) (take n (now (from .entry)))) ⌝ }
+// One step of FNV-1a.
+fn mix(h: u64, b: u8) -> u64
+    ensures { λ r. ⌜ r ≡ bitXor h b * 0x100000001b3 % 2 ^ 64 ⌝ }
 {
-    let hash = subject::token_hash(token);
-    match visit_front(area, nodes, targets, store, hash, from, n, to, out, at) {
-        Step::Wide => Step::Wide,
-        Step::Damaged => Step::Damaged,
-        Step::On { front, length } => {
-            copy_front(to, front, from);
-            Step::On { front, length }
+    subject::wrapping_mul(h ^ (b as u64), 0x100000001b3)
+}
+
+// The hash of the token at a position, up to the next dot or where the text ends, in one pass.
+fn hash_to_dot(text: &[u8], at: usize) -> Hashed
+    ensures { λ r. ⌜ (r .end ≡ dotFrom (now (text .entry)) at) × (r .hash ≡ fnv (part (now (text .entry)) at (r .end - at))) ⌝ }
+{
+    let mut hash: u64 = 0xcbf29ce484222325;
+    let mut i = at;
+    while i < text.len() {
+        let b = text[i];
+        if b == 0x2e {
+            return Hashed { hash, end: i };
         }
+        hash = mix(hash, b);
+        i += 1;
     }
+    Hashed { hash, end: i }
 }
 
 // The list that a subject collects, from the root alone: as much of it as the output holds is written there.
-// Both frontiers are lent; the limit is their length.
+// The two frontiers take turns in the halves of `both`; the limit is the length of a half.
 fn walk(
     area: &[u32],
     nodes: usize,
     targets: usize,
     store: &[u32],
     subject: &[u8],
-    from: &mut [u32],
-    to: &mut [u32],
+    both: &mut [u32],
     out: &mut [u32],
 ) -> Walked
-    requires { ⌜ (0 < length (now to)) × (length (now to) ≤ 1024) × (length (now from) ≡ length (now to)) × (targets ≤ length (now store)) × (length (now subject) ≤ 4096) ⌝ }
-    ensures { λ r. ⌜ Ends r (now (out .entry)) (now (out .exit)) (walkOver (length (now (to .entry))) (now (area .entry)) nodes targets (now (store .entry)) (map fnv (tokens (now (subject .entry))))) ⌝ }
+    requires { ⌜ (2 ≤ length (now both)) × (length (now both) ≤ 2048) × (targets ≤ length (now store)) × (length (now subject) ≤ 4096) ⌝ }
+    ensures { λ r. ⌜ Ends r (now (out .entry)) (now (out .exit)) (walkOver (length (now (both .entry)) / 2) (now (area .entry)) nodes targets (now (store .entry)) (map fnv (tokens (now (subject .entry))))) ⌝ }
 {
-    from[0] = 0;
+    let limit = both.len() / 2;
+    both[0] = 0;
+    let mut from = 0;
     let mut n = 1;
     let mut size = 0;
     let mut peak = 1;
@@ -336,60 +338,80 @@ fn walk(
         if n == 0 {
             return Walked::Found { length: size, peak };
         }
-        let end = subject::find_dot(subject, at);
-        let token = &subject[at..end];
-        match pass_token(area, nodes, targets, store, token, from, n, to, out, size) {
-            Step::Wide => {
-                return Walked::Wide;
-            }
-            Step::Damaged => {
-                return Walked::Damaged;
-            }
+        let token = hash_to_dot(subject, at);
+        let hash = token.hash;
+        match visit_front(area, nodes, targets, store, hash, both, from, n, out, size) {
+            Step::Wide => return Walked::Wide,
+            Step::Damaged => return Walked::Damaged,
             Step::On { front, length } => {
                 n = front;
                 size = length;
             }
         }
         peak = larger(peak, n);
-        at = end + 1;
+        from = limit - from;
+        at = token.end + 1;
     }
-    match collect_exact(area, targets, store, from, n, out, size) {
+    match collect_exact(area, targets, store, &both[from..], n, out, size) {
         Collected::Damaged => Walked::Damaged,
         Collected::Upto(length) => Walked::Found { length, peak },
     }
 }
 
-// The walk twice: first for the list's length and the peak, with no output, then to write the list.
+// The list of a walk, of `count` targets, goes to the output: from `list`, to which the walk wrote as much as that holds, or by a second walk.
+fn write_list(
+    area: &[u32],
+    nodes: usize,
+    targets: usize,
+    store: &[u32],
+    subject: &[u8],
+    both: &mut [u32],
+    list: &[u32],
+    count: usize,
+    out: &mut [u32],
+)
+    requires { ⌜ (2 ≤ length (now both)) × (length (now both) ≤ 2048) × (targets ≤ length (now store)) × (length (now subject) ≤ 4096) × Holding (walkOver (length (now both) / 2) (now area) nodes targets (now store) (map fnv (tokens (now subject)))) count (now list) ⌝ }
+    ensures { λ _. ⌜ Wrote (walkOver (length (now (both .entry)) / 2) (now (area .entry)) nodes targets (now (store .entry)) (map fnv (tokens (now (subject .entry))))) (now (out .entry)) (now (out .exit)) ⌝ }
+{
+    if count <= list.len() {
+        copy_targets(list, 0, count, out, 0);
+        return;
+    }
+    walk(area, nodes, targets, store, subject, both, out);
+}
+
+// The walk within the widest frontiers, its list written to `list`.
 fn match_within(
     nodes: usize,
     targets: usize,
     area: &[u32],
     store: &[u32],
     subject: &[u8],
-    from: &mut [u32],
-    to: &mut [u32],
+    both: &mut [u32],
+    list: &mut [u32],
     out: &mut [u32],
 ) -> TableMatch
-    requires { ⌜ (length (now from) ≡ 1024) × (length (now to) ≡ 1024) × (targets ≤ length (now store)) × (length (now subject) ≤ 4096) ⌝ }
+    requires { ⌜ (length (now both) ≡ 2048) × (targets ≤ length (now store)) × (length (now subject) ≤ 4096) ⌝ }
     ensures { λ r. ⌜ outcome (matchAnswer r) (now (out .exit)) ≡ written (walkOver 1024 (now (area .entry)) nodes targets (now (store .entry)) (map fnv (tokens (now (subject .entry))))) (now (out .entry)) ⌝ }
 {
-    match walk(
-        area,
-        nodes,
-        targets,
-        store,
-        subject,
-        from,
-        to,
-        &mut out[..0],
-    ) {
+    match walk(area, nodes, targets, store, subject, both, list) {
         Walked::Wide => TableMatch::Damaged,
         Walked::Damaged => TableMatch::Damaged,
         Walked::Found { length, peak } => {
             if out.len() < length {
                 return TableMatch::OutShort(length);
             }
-            walk(area, nodes, targets, store, subject, from, to, out);
+            write_list(
+                area,
+                nodes,
+                targets,
+                store,
+                subject,
+                both,
+                list,
+                length,
+                out,
+            );
             TableMatch::Listed {
                 count: length,
                 peak,
@@ -398,7 +420,73 @@ fn match_within(
     }
 }
 
-// The two frontiers.
+// The two widest frontiers and room for a long list.
+fn match_wide(
+    nodes: usize,
+    targets: usize,
+    area: &[u32],
+    store: &[u32],
+    subject: &[u8],
+    out: &mut [u32],
+) -> TableMatch
+    requires { ⌜ (targets ≤ length (now store)) × (length (now subject) ≤ 4096) ⌝ }
+    ensures { λ r. ⌜ outcome (matchAnswer r) (now (out .exit)) ≡ written (walkOver 1024 (now (area .entry)) nodes targets (now (store .entry)) (map fnv (tokens (now (subject .entry))))) (now (out .entry)) ⌝ }
+{
+    let mut both = [0u32; 2 * MAX_FORK_FRONTIER];
+    let mut list = [0u32; LONG_LIST];
+    match_within(
+        nodes,
+        targets,
+        area,
+        store,
+        subject,
+        &mut both,
+        &mut list,
+        out,
+    )
+}
+
+// The walk within narrow frontiers, its list written to `list`. Where one would pass its limit, all again within the widest.
+fn match_narrow(
+    nodes: usize,
+    targets: usize,
+    area: &[u32],
+    store: &[u32],
+    subject: &[u8],
+    both: &mut [u32],
+    list: &mut [u32],
+    out: &mut [u32],
+) -> TableMatch
+    requires { ⌜ (2 ≤ length (now both)) × (length (now both) ≤ 2048) × (targets ≤ length (now store)) × (length (now subject) ≤ 4096) ⌝ }
+    ensures { λ r. ⌜ outcome (matchAnswer r) (now (out .exit)) ≡ written (walkOver 1024 (now (area .entry)) nodes targets (now (store .entry)) (map fnv (tokens (now (subject .entry))))) (now (out .entry)) ⌝ }
+{
+    match walk(area, nodes, targets, store, subject, both, list) {
+        Walked::Wide => match_wide(nodes, targets, area, store, subject, out),
+        Walked::Damaged => TableMatch::Damaged,
+        Walked::Found { length, peak } => {
+            if length <= out.len() {
+                write_list(
+                    area,
+                    nodes,
+                    targets,
+                    store,
+                    subject,
+                    both,
+                    list,
+                    length,
+                    out,
+                );
+                return TableMatch::Listed {
+                    count: length,
+                    peak,
+                };
+            }
+            TableMatch::OutShort(length)
+        }
+    }
+}
+
+// Two narrow frontiers and room for a short list.
 fn match_fresh(
     nodes: usize,
     targets: usize,
@@ -410,16 +498,16 @@ fn match_fresh(
     requires { ⌜ (targets ≤ length (now store)) × (length (now subject) ≤ 4096) ⌝ }
     ensures { λ r. ⌜ outcome (matchAnswer r) (now (out .exit)) ≡ written (walkOver 1024 (now (area .entry)) nodes targets (now (store .entry)) (map fnv (tokens (now (subject .entry))))) (now (out .entry)) ⌝ }
 {
-    let mut from = [0u32; MAX_FORK_FRONTIER];
-    let mut to = [0u32; MAX_FORK_FRONTIER];
-    match_within(
+    let mut both = [0u32; 2 * NARROW_FRONTIER];
+    let mut list = [0u32; SHORT_LIST];
+    match_narrow(
         nodes,
         targets,
         area,
         store,
         subject,
-        &mut from,
-        &mut to,
+        &mut both,
+        &mut list,
         out,
     )
 }
@@ -437,16 +525,6 @@ pub fn counts_fit(nodes: usize, targets: usize, area: &[u32], store: &[u32]) -> 
     targets <= store.len()
 }
 
-// The refusal of a subject, as that of a match.
-fn refused(text: Parsed) -> TableMatch
-    ensures { λ r. ⌜ matchAnswer r ≡ whenAccepted (parsed text) (answer 19 []) ⌝ }
-{
-    match text {
-        Parsed::Accepted(_) => TableMatch::Damaged,
-        Parsed::Refused(e) => TableMatch::Invalid(e),
-    }
-}
-
 // The list of the targets that a subject matches in a table, written over the first places of the output: 1 to 9, then 19, then 21.
 pub fn match_table(
     nodes: usize,
@@ -458,12 +536,13 @@ pub fn match_table(
 ) -> TableMatch
     ensures { λ r. ⌜ outcome (matchAnswer r) (now (out .exit)) ≡ matchTable nodes targets (now («node_words» .entry)) (now («target_words» .entry)) (now (subject .entry)) (now (out .entry)) ⌝ }
 {
-    let text = subject::parse_literal(subject);
-    let Parsed::Accepted(_) = text else {
-        return refused(text);
-    };
-    if !counts_fit(nodes, targets, node_words, target_words) {
-        return TableMatch::Damaged;
+    match subject::parse_literal(subject) {
+        Parsed::Refused(e) => TableMatch::Invalid(e),
+        Parsed::Accepted(_) => {
+            if !counts_fit(nodes, targets, node_words, target_words) {
+                return TableMatch::Damaged;
+            }
+            match_fresh(nodes, targets, node_words, target_words, subject, out)
+        }
     }
-    match_fresh(nodes, targets, node_words, target_words, subject, out)
 }

@@ -9,30 +9,17 @@ use Rattle.sublist_walk.proofs.match_table.Tie as tie
 parse-literal-requires : tie.Need-parse-literal-requires
 parse-literal-requires c κs = search needs
 
+enum-known-e : tie.Need-enum-known-e
+enum-known-e c = search needs
+
 enum-told : tie.Need-enum-told
 enum-told c = search needs
-
-enum-told-2 : tie.Need-enum-told-2
-enum-told-2 c = search needs
-
-refused-requires : tie.Need-refused-requires
-refused-requires c κs = search needs
-
-returns : tie.Need-returns
-returns c =
-    let after-enum-told2 = c .before in
-    let after-parse-literal = after-enum-told2 .before .before in
-    let start = after-parse-literal .before .before .before .before .before in
-    let a = start .args in
-    let t = after-parse-literal .parse-literal in
-    subject-refused (a .nodes) (a .targets) (a .node-words .now) (a .target-words .now) (a .subject .now) (a .out .now) (t .result) (t .ensures)
-    _ (after-enum-told2 .enum-told2 .given .1) _ (c .refused .ensures)
 
 counts-fit-requires : tie.Need-counts-fit-requires
 counts-fit-requires c κs = search needs
 
-returns-2 : tie.Need-returns-2
-returns-2 c =
+returns : tie.Need-returns
+returns c =
     let after-counts-fit = c .before in
     let after-enum-told = after-counts-fit .before in
     let after-parse-literal = after-enum-told .before .before in
@@ -57,6 +44,15 @@ match-fresh-requires c κs =
       subject-short (a .nodes) (a .targets) (a .node-words .now) (a .target-words .now) (a .subject .now) (a .out .now) (t .result) (t .ensures) _ (after-enum-told .enum-told .given .1),
     )
 
+returns-2 : tie.Need-returns-2
+returns-2 c =
+    let after-e = c .before in
+    let after-parse-literal = after-e .before .before in
+    let start = after-parse-literal .before .before .before .before .before in
+    let a = start .args in
+    let t = after-parse-literal .parse-literal in
+    subject-refused (a .nodes) (a .targets) (a .node-words .now) (a .target-words .now) (a .subject .now) (a .out .now) (t .result) (t .ensures) _ (after-e .e .given .1)
+
 same-length : tie.Need-same-length
 same-length c = search needs
 
@@ -79,12 +75,11 @@ match-table-spec =
     tie.close
     (tie.spec
     parse-literal-requires
+    enum-known-e
     enum-told
-    enum-told-2
-    refused-requires
-    returns
     counts-fit-requires
-    returns-2
+    returns
     match-fresh-requires
+    returns-2
     same-length
     returns-3)

@@ -1,19 +1,20 @@
--- `sublist_walk::stands` meets its contract. The loop's invariant: whether the node stands among those left is whether it stands among all. Assumes nothing.
-use Prim.Native.Nat.{_-_, _≤_}
+-- `sublist_walk::stands` meets its contract. The loop's invariant: `seen` says whether the node stands among the first `i`. Assumes nothing.
+use Prim.Native.Nat.{_-_, _≤_, _<_}
 use native.Mathlib.Omega.{arith}
 use mathlib.Core.Path.{sym, _∙_, _≡_}
-use lib.ListN.{take, drop}
+use mathlib.Core.Logic.{⊎-elim}
+use lib.ListN.{length, take}
 use borrow.Author.Needs.{needs}
 use Rattle.sublist_walk.specs.Walk.{among}
-use Rattle.sublist_walk.proofs.Parts.{among-here, among-next, among-end}
+use Rattle.sublist_walk.proofs.Parts.{among-here, among-other}
 use Rattle.sublist_walk.proofs.stands.Statement.{statement}
 use Rattle.sublist_walk.proofs.stands.Tie as tie
 
 abbrev Inv-loop : tie.InvT-loop
-Inv-loop front n id i₀ i = (among id (drop i (take n front)) ≡ among id (take n front)) × (i ≤ n)
+Inv-loop front n id seen₀ i₀ seen i = (among id (take i front) ≡ seen) × (i ≤ n)
 
 abbrev μ-loop : tie.MeasureT-loop
-μ-loop front n id i₀ i = n - i
+μ-loop front n id seen₀ i₀ seen i = n - i
 
 loop-holds : tie.Need-loop-holds Inv-loop μ-loop
 loop-holds c = search needs
@@ -24,12 +25,6 @@ mul-if1 c = search needs
 shared-slice-read-if1 : tie.Need-shared-slice-read-if1 Inv-loop μ-loop
 shared-slice-read-if1 c = search needs
 
-returns : tie.Need-returns Inv-loop μ-loop
-returns c =
-    let l = c .before .before .before .loop in
-    let a = c .before .before .before .before .args in
-    sym (among-here (a .front .now) (a .n) (l .i) (a .id) (omega arith) (omega arith) (c .if1 .taken)) ∙ l .inv .0
-
 add-i : tie.Need-add-i Inv-loop μ-loop
 add-i c = search needs
 
@@ -38,15 +33,21 @@ loop-less c = search needs
 
 loop-again : tie.Need-loop-again Inv-loop μ-loop
 loop-again c =
-    let l = c .before .before .before .loop in
-    let a = c .before .before .before .before .args in
-    (among-next (a .front .now) (a .n) (l .i) (a .id) (omega arith) (omega arith) (c .if1 .left) ∙ l .inv .0, search needs)
+    let at-loop = c .before .before .before in
+    let a = at-loop .before .args in
+    let l = at-loop .loop in
+    let h : l .i < length (a .front .now) = omega arith in (
+      ⊎-elim (λ w. among-here (a .front .now) (l .i) (a .id) h (w .0 .taken) ∙ sym (w .1))
+          (λ w. among-other (a .front .now) (l .i) (a .id) h (w .0 .left) ∙ l .inv .0 ∙ sym (w .1))
+          (c .if1 .came),
+      search needs,
+    )
 
-returns-2 : tie.Need-returns-2 Inv-loop μ-loop
-returns-2 c =
+returns : tie.Need-returns Inv-loop μ-loop
+returns c =
     let l = c .before .loop in
-    let a = c .before .before .args in
-    sym (among-end (a .front .now) (a .n) (l .i) (a .id) (omega arith) (omega arith)) ∙ l .inv .0
+    let e : c .before .before .args .n ≡ l .i = omega arith in
+    rw e (sym (l .inv .0))
 
 pub stands-spec : {M : Type 1} → statement M
 stands-spec =
@@ -57,8 +58,7 @@ stands-spec =
     loop-holds
     mul-if1
     shared-slice-read-if1
-    returns
     add-i
     loop-less
     loop-again
-    returns-2)
+    returns)

@@ -1,48 +1,78 @@
--- `sublist_walk::visit_front` meets its contract. The loop's invariant: the first `i` nodes give the frontier in `to` and a list that stands in the output behind the `at` targets before it. Assumes nothing.
-use Prim.Native.Nat.{_-_, _≤_}
+-- `sublist_walk::visit_front` meets its contract. The loop's invariant: the first `i` nodes give the frontier in the other half and a list that stands in the output behind the `at` targets before it; the nodes to visit are as they were. Assumes nothing.
+use Prim.Native.Nat.{_+_, _-_, _/_, _≤_}
 use native.Mathlib.Omega.{arith}
-use mathlib.Core.Path.{_≡_, refl, _∙_}
+use mathlib.Core.Path.{_≡_, refl, sym, _∙_, ap}
 use mathlib.Core.List.{[]}
-use lib.ListN.{length, take}
+use lib.ListN.{length, take, drop, length-drop}
 use borrow.Author.Needs.{needs}
-use Rattle.sublist_walk.specs.Walk.{level, visits}
+use borrow.Rule.Slice.PartMut.{same-len-mid}
+use Rattle.sublist_walk.specs.Walk.{part, level, visits}
 use Rattle.sublist_walk.specs.Told.{Listed}
 use Rattle.sublist_walk.proofs.Visits.{listed-none, next-on, next-wide, next-damaged}
-use Rattle.sublist_walk.proofs.Levels.{reaches-on, reaches-wide, reaches-damaged}
+use Rattle.sublist_walk.proofs.Levels.{part-length, reaches-on, reaches-wide, reaches-damaged}
+use Rattle.sublist_walk.proofs.Lending.{lent-length, back-there, back-turn, turn-within, read-same}
 use Rattle.sublist_walk.proofs.visit_front.Statement.{statement}
 use Rattle.sublist_walk.proofs.visit_front.Tie as tie
 
 abbrev Inv-loop : tie.InvT-loop
-Inv-loop area nodes targets store hash from n to₀ out₀ at i₀ next₀ size₀ to out i next size =
-    Listed (visits (length to₀) area nodes targets store hash (level [] []) (take i from)) (take next to) at size i out₀ out
-    × (next ≤ length to)
-    × (length to ≡ length to₀)
+Inv-loop area nodes targets store hash both₀ from n out₀ at limit start end i₀ next₀ size₀ both out i next size =
+    Listed (visits limit area nodes targets store hash (level [] []) (take i (drop from both₀))) (take next (part both start limit)) at size i out₀ out
+    × (next ≤ limit)
+    × (part both from n ≡ part both₀ from n)
+    × (length both ≡ length both₀)
     × (length out ≡ length out₀)
+    × (from ≤ limit)
     × (i ≤ n)
 
 abbrev μ-loop : tie.MeasureT-loop
-μ-loop area nodes targets store hash from n to₀ out₀ at i₀ next₀ size₀ to out i next size = n - i
+μ-loop area nodes targets store hash both₀ from n out₀ at limit start end i₀ next₀ size₀ both out i next size = n - i
+
+sub-start : tie.Need-sub-start Inv-loop μ-loop
+sub-start c =
+    let start = c .before .before .before .before in
+    omega (arith, turn-within _ _ (start .pre .0))
+
+add-end : tie.Need-add-end Inv-loop μ-loop
+add-end c = search needs
 
 loop-holds : tie.Need-loop-holds Inv-loop μ-loop
 unfolding visits
 loop-holds c =
-    let start = c .before .before .before .before .before in
+    let start = c .before .before .before .before in
     let a = start .args in
-    (listed-none (a .at) (a .out .now), search needs, refl, refl, search needs)
+    (listed-none (a .at) (a .out .now), search needs, refl, refl, refl, turn-within _ _ (start .pre .0), search needs)
+
+add-node : tie.Need-add-node Inv-loop μ-loop
+add-node c = search needs
 
 mul-node : tie.Need-mul-node Inv-loop μ-loop
 mul-node c = search needs
 
-shared-slice-read-node : tie.Need-shared-slice-read-node Inv-loop μ-loop
-shared-slice-read-node c = search needs
+slice-read-node : tie.Need-slice-read-node Inv-loop μ-loop
+slice-read-node c = search needs
+
+mul-to : tie.Need-mul-to Inv-loop μ-loop
+mul-to c = search needs
+
+sub-to : tie.Need-sub-to Inv-loop μ-loop
+sub-to c = search needs
+
+part-to-start : tie.Need-part-to-start Inv-loop μ-loop
+part-to-start c = search needs
+
+part-to-end : tie.Need-part-to-end Inv-loop μ-loop
+part-to-end c = search needs
 
 visit-requires : tie.Need-visit-requires Inv-loop μ-loop
 visit-requires c κs =
     let at-loop = c .before .before .before .before in
-    let start = at-loop .before .before .before .before .before .before in
+    let start = at-loop .before .before .before .before .before in
+    let a = start .args in
     let l = at-loop .loop in
     let w = l .inv .0 .most in
-    (l .inv .1, start .pre .2, omega arith)
+    let half = length (a .both .now) / 2 in
+    let to = half - a .from in
+    (omega (arith, part-length (l .both) to (to + half - to) (omega arith)), start .pre .3, omega arith)
 
 enum-told : tie.Need-enum-told Inv-loop μ-loop
 enum-told c = search needs
@@ -58,12 +88,20 @@ returns c =
     let after-visit = c .before .before .before .before .before .before in
     let in-loop = after-visit .before .before .before .before in
     let at-loop = in-loop .before in
-    let start = at-loop .before .before .before .before .before .before in
+    let start = at-loop .before .before .before .before .before in
     let a = start .args in
     let l = at-loop .loop in
     let v = after-visit .visit in
-    next-wide _ (a .area .now) (a .nodes) (a .targets) (a .store .now) (a .hash) (a .from .now) _ (a .at) (l .size) (l .i) _ _ (l .inv .0)
-    (a .n) (in-loop .loop-test .taken) (start .pre .0) _ (l .inv .2)
+    let half = length (a .both .now) / 2 in
+    let to = half - a .from in
+    let e : to + half - to ≡ half = omega arith in
+    let fits : to + half ≤ length (l .both) = omega arith in
+    let same = v .kept .1 .1 .1 .1 .1 .1 .0 in
+    let k = lent-length (l .both) (v .last .1 .1 .1 .1 .1 .1 .0) to (to + half - to) half e fits same in
+    let f = ap (λ x. take (l .next) (part (l .both) to x)) e in
+    let d = read-same (l .both) (a .both .now) (a .from) (a .n) (l .i) (l .inv .2) (in-loop .loop-test .taken) in
+    next-wide half (a .area .now) (a .nodes) (a .targets) (a .store .now) (a .hash) (drop (a .from) (a .both .now)) _ (a .at) (l .size) (l .i) _ _ (l .inv .0)
+    (a .n) (in-loop .loop-test .taken) (rw (length-drop (a .from) (a .both .now)) (omega arith)) _ k _ f _ d
     (reaches-wide (v .result) (v .last .1 .1 .1 .1 .1 .1 .0) _ (v .last .1 .1 .1 .1 .1 .1 .1 .1 .0) (l .size) 1 _ (v .ensures) (c .enum-told .given .1))
 
 enum-told-2 : tie.Need-enum-told-2 Inv-loop μ-loop
@@ -80,12 +118,20 @@ returns-2 c =
     let after-visit = c .before .before .before .before .before .before in
     let in-loop = after-visit .before .before .before .before in
     let at-loop = in-loop .before in
-    let start = at-loop .before .before .before .before .before .before in
+    let start = at-loop .before .before .before .before .before in
     let a = start .args in
     let l = at-loop .loop in
     let v = after-visit .visit in
-    next-damaged _ (a .area .now) (a .nodes) (a .targets) (a .store .now) (a .hash) (a .from .now) _ (a .at) (l .size) (l .i) _ _ (l .inv .0)
-    (a .n) (in-loop .loop-test .taken) (start .pre .0) _ (l .inv .2)
+    let half = length (a .both .now) / 2 in
+    let to = half - a .from in
+    let e : to + half - to ≡ half = omega arith in
+    let fits : to + half ≤ length (l .both) = omega arith in
+    let same = v .kept .1 .1 .1 .1 .1 .1 .0 in
+    let k = lent-length (l .both) (v .last .1 .1 .1 .1 .1 .1 .0) to (to + half - to) half e fits same in
+    let f = ap (λ x. take (l .next) (part (l .both) to x)) e in
+    let d = read-same (l .both) (a .both .now) (a .from) (a .n) (l .i) (l .inv .2) (in-loop .loop-test .taken) in
+    next-damaged half (a .area .now) (a .nodes) (a .targets) (a .store .now) (a .hash) (drop (a .from) (a .both .now)) _ (a .at) (l .size) (l .i) _ _ (l .inv .0)
+    (a .n) (in-loop .loop-test .taken) (rw (length-drop (a .from) (a .both .now)) (omega arith)) _ k _ f _ d
     (reaches-damaged (v .result) (v .last .1 .1 .1 .1 .1 .1 .0) _ (v .last .1 .1 .1 .1 .1 .1 .1 .1 .0) (l .size) 1 _ (v .ensures) (c .enum-told2 .given .1))
 
 enum-known-front : tie.Need-enum-known-front Inv-loop μ-loop
@@ -101,16 +147,29 @@ loop-again : tie.Need-loop-again Inv-loop μ-loop
 loop-again c =
     let after-front = c .before in
     let after-visit = after-front .before .before .before .before .before .before in
-    let at-loop = after-visit .before .before .before .before .before in
-    let start = at-loop .before .before .before .before .before .before in
+    let in-loop = after-visit .before .before .before .before in
+    let at-loop = in-loop .before in
+    let start = at-loop .before .before .before .before .before in
     let a = start .args in
     let l = at-loop .loop in
     let v = after-visit .visit in
+    let half = length (a .both .now) / 2 in
+    let to = half - a .from in
+    let e : to + half - to ≡ half = omega arith in
+    let fits : to + half ≤ length (l .both) = omega arith in
+    let same = v .kept .1 .1 .1 .1 .1 .1 .0 in
+    let k = lent-length (l .both) (v .last .1 .1 .1 .1 .1 .1 .0) to (to + half - to) half e fits same in
+    let f = ap (λ x. take (l .next) (part (l .both) to x)) e in
+    let d = read-same (l .both) (a .both .now) (a .from) (a .n) (l .i) (l .inv .2) (in-loop .loop-test .taken) in
+    let t = back-there (l .both) (v .last .1 .1 .1 .1 .1 .1 .0) to (to + half - to) half e fits same in
     let w = reaches-on (v .result) (v .last .1 .1 .1 .1 .1 .1 .0) _ (v .last .1 .1 .1 .1 .1 .1 .1 .1 .0) (l .size) 1 _ (v .ensures) _ _ (after-front .front .given .1) in (
-      next-on _ (a .area .now) (a .nodes) (a .targets) (a .store .now) (a .hash) (a .from .now) _ (a .at) (l .size) (l .i) _ _ (l .inv .0) (omega arith) _ (l .inv .2) _ _ _ (w .1),
-      w .0,
-      v .kept .1 .1 .1 .1 .1 .1 .0 ∙ l .inv .2,
-      v .kept .1 .1 .1 .1 .1 .1 .1 .1 .0 ∙ l .inv .3,
+      next-on half (a .area .now) (a .nodes) (a .targets) (a .store .now) (a .hash) (drop (a .from) (a .both .now)) _ (a .at) (l .size) (l .i) _ _ (l .inv .0)
+          (rw (length-drop (a .from) (a .both .now)) (omega arith)) _ k _ f _ d _ _ (ap (take (after-front .front .given .0 .0)) (sym t)) _ _ (w .1),
+      omega (arith, w .0, same, k),
+      back-turn (l .both) (v .last .1 .1 .1 .1 .1 .1 .0) to (to + half - to) half e fits same (a .from) (a .n) (start .pre .0) refl (start .pre .1) ∙ l .inv .2,
+      same-len-mid to (to + half - to) (l .both) (v .last .1 .1 .1 .1 .1 .1 .0) same ∙ l .inv .3,
+      v .kept .1 .1 .1 .1 .1 .1 .1 .1 .0 ∙ l .inv .4,
+      l .inv .5,
       search needs,
     )
 
@@ -123,11 +182,12 @@ same-length-6 c = search needs
 returns-3 : tie.Need-returns-3 Inv-loop μ-loop
 returns-3 c =
     let at-loop = c .before in
-    let start = at-loop .before .before .before .before .before .before in
+    let start = at-loop .before .before .before .before .before in
     let a = start .args in
     let l = at-loop .loop in
+    let half = length (a .both .now) / 2 in
     let e : a .n ≡ l .i = omega arith in
-    (l .inv .1, rw e (l .inv .0))
+    (rw (part-length (l .both) (half - a .from) half (omega arith)) (l .inv .1), rw e (l .inv .0))
 
 pub visit-front-spec : {M : Type 1} → statement M
 visit-front-spec =
@@ -135,9 +195,16 @@ visit-front-spec =
     (tie.spec
     Inv-loop
     μ-loop
+    sub-start
+    add-end
     loop-holds
+    add-node
     mul-node
-    shared-slice-read-node
+    slice-read-node
+    mul-to
+    sub-to
+    part-to-start
+    part-to-end
     visit-requires
     enum-told
     same-length

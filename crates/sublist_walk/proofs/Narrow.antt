@@ -1,0 +1,111 @@
+-- A walk that never passes a limit k is the same within a larger limit l.
+use Prim.Native.Nat.{ℕ, _≤_}
+use native.Mathlib.Omega.{arith}
+use mathlib.Core.Path.{_≡_, refl}
+use mathlib.Core.Bool.{Bool, true, false}
+use mathlib.Core.List.{List, [], _∷_, _++_}
+use lib.Dec.{ltb}
+use lib.ListN.{length}
+use borrow.Author.Tests.{lt-ltb, ltb-true}
+use Rattle.subject.specs.Choice.{pick}
+use Rattle.sublist_area.specs.declared.Child.{Child}
+use Rattle.sublist_area.specs.declared.Child.the-variants.{Node, Missing, Damaged}
+use Rattle.sublist_area.specs.Words.{literalChild, starChild}
+use Rattle.sublist_walk.specs.Walk.{among, Level, level, wide, damaged, Walk, at, tooWide, broken, Walked, found, failed, collect, push, visit, visits, arrived, onToken, onTokens, exact, listed, ended, walkOver}
+use Rattle.sublist_walk.proofs.Visits.{exact-any}
+
+-- t is s, unless s passed its limit
+abbrev Kept : Level → Level → Type 0
+Kept (level next list) t = t ≡ level next list
+Kept wide t = Unit {0}
+Kept damaged t = t ≡ damaged
+
+abbrev KeptWalk : Walk → Walk → Type 0
+KeptWalk (at front list peak) v = v ≡ at front list peak
+KeptWalk tooWide v = Unit {0}
+KeptWalk broken v = v ≡ broken
+
+abbrev KeptEnd : Walked → Walked → Type 0
+KeptEnd (found list peak) v = v ≡ found list peak
+KeptEnd (failed true) v = Unit {0}
+KeptEnd (failed false) v = v ≡ failed false
+
+kept-same : (s : Level) → Kept s s
+kept-same (level next list) = refl
+kept-same wide = tt
+kept-same damaged = refl
+
+collect-kept : (a : List ℕ) (m : ℕ) (ts : List ℕ) (f i : ℕ) (s t : Level) → Kept s t → Kept (collect a m ts f i s) (collect a m ts f i t)
+unfolding collect
+collect-kept a m ts f i (level next list) t e = rw e (kept-same (collect a m ts f i (level next list)))
+collect-kept a m ts f i wide t e = tt
+collect-kept a m ts f i damaged t e = rw e refl
+
+module _ (k l : ℕ) (small : k ≤ l) where
+  push-kept : (s t : Level) (c : Child) → Kept s t → Kept (push k s c) (push l t c)
+  unfolding push
+  push-kept (level next list) t (Node j) e = rw e (go (among j next) (ltb (length next) k) refl)
+    where
+      go : (b d : Bool) → ltb (length next) k ≡ d
+          → Kept (pick b (level next list) (pick d (level (next ++ j ∷ []) list) wide)) (pick b (level next list) (pick (ltb (length next) l) (level (next ++ j ∷ []) list) wide))
+      go true d q = refl
+      go false true q = rw (lt-ltb (length next) l (omega (arith, ltb-true (length next) k q))) refl
+      go false false q = tt
+  push-kept (level next list) t (Missing link) e = rw e refl
+  push-kept (level next list) t Damaged e = rw e refl
+  push-kept wide t c e = tt
+  push-kept damaged t c e = rw e refl
+
+  module _ (a : List ℕ) (n m : ℕ) (ts : List ℕ) where
+    visit-kept : (h : ℕ) (s t : Level) (i : ℕ) → Kept s t → Kept (visit k a n m ts h s i) (visit l a n m ts h t i)
+    unfolding visit
+    visit-kept h s t i e =
+        push-kept (push k (collect a m ts 6 i s) (literalChild a n i h)) (push l (collect a m ts 6 i t) (literalChild a n i h)) (starChild a n i)
+        (push-kept (collect a m ts 6 i s) (collect a m ts 6 i t) (literalChild a n i h) (collect-kept a m ts 6 i s t e))
+
+    visits-kept : (h : ℕ) (s t : Level) (is : List ℕ) → Kept s t → Kept (visits k a n m ts h s is) (visits l a n m ts h t is)
+    unfolding visits
+    visits-kept h s t [] e = e
+    visits-kept h s t (i ∷ is) e = visits-kept h (visit k a n m ts h s i) (visit l a n m ts h t i) is (visit-kept h s t i e)
+
+    arrived-kept : (peak : ℕ) (s t : Level) → Kept s t → KeptWalk (arrived k a n m ts peak s) (arrived l a n m ts peak t)
+    unfolding arrived
+    arrived-kept peak (level next list) t e = rw e refl
+    arrived-kept peak wide t e = tt
+    arrived-kept peak damaged t e = rw e refl
+
+    token-kept : (w v : Walk) (h : ℕ) → KeptWalk w v → KeptWalk (onToken k a n m ts w h) (onToken l a n m ts v h)
+    unfolding onToken
+    token-kept (at front list peak) v h e =
+        rw e (arrived-kept peak (visits k a n m ts h (level [] list) front) (visits l a n m ts h (level [] list) front) (visits-kept h (level [] list) (level [] list) front refl))
+    token-kept tooWide v h e = tt
+    token-kept broken v h e = rw e refl
+
+    tokens-kept : (w v : Walk) (hs : List ℕ) → KeptWalk w v → KeptWalk (onTokens k a n m ts w hs) (onTokens l a n m ts v hs)
+    unfolding onTokens
+    tokens-kept w v [] e = e
+    tokens-kept w v (h ∷ hs) e = tokens-kept (onToken k a n m ts w h) (onToken l a n m ts v h) hs (token-kept w v h e)
+
+    listed-kept : (peak : ℕ) (s : Level) → KeptEnd (listed k a n m ts peak s) (listed l a n m ts peak s)
+    unfolding listed
+    listed-kept peak (level next list) = refl
+    listed-kept peak wide = tt
+    listed-kept peak damaged = refl
+
+    ended-kept : (w v : Walk) → KeptWalk w v → KeptEnd (ended k a n m ts w) (ended l a n m ts v)
+    unfolding ended
+    ended-kept (at front list peak) v e =
+        rw (e, exact-any k a n m ts (level [] list) front, exact-any l a n m ts (level [] list) front) (listed-kept peak (exact 0 a 0 m ts (level [] list) front))
+    ended-kept tooWide v e = tt
+    ended-kept broken v e = rw e refl
+
+    pub narrow : (hs : List ℕ) → (walkOver k a n m ts hs ≡ failed true → ⊥) → walkOver l a n m ts hs ≡ walkOver k a n m ts hs
+    unfolding walkOver
+    narrow hs never =
+        go (ended k a n m ts (onTokens k a n m ts (at (0 ∷ []) [] 1) hs)) never
+        (ended-kept (onTokens k a n m ts (at (0 ∷ []) [] 1) hs) (onTokens l a n m ts (at (0 ∷ []) [] 1) hs) (tokens-kept (at (0 ∷ []) [] 1) (at (0 ∷ []) [] 1) hs refl))
+      where
+        go : (w : Walked) → (w ≡ failed true → ⊥) → KeptEnd w (ended l a n m ts (onTokens l a n m ts (at (0 ∷ []) [] 1) hs)) → ended l a n m ts (onTokens l a n m ts (at (0 ∷ []) [] 1) hs) ≡ w
+        go (found list peak) f e = e
+        go (failed true) f e = absurd (f refl)
+        go (failed false) f e = e
