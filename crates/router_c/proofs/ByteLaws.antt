@@ -47,7 +47,7 @@ byte-at ws i k m e hk hi =
     let b : m % 4 ≡ k = omega arith in
     getD-build (length ws * 4) (λ (n : ℕ). byteOf (getD ws (n / 4) 0) (n % 4)) m (omega arith) ∙ rw (a, b) refl
 
-recompose : (w : ℕ) → w < 4294967296 → word (w % 256) (w / 256 % 256) (w / 65536 % 256) (w / 16777216 % 256) ≡ w
+pub recompose : (w : ℕ) → w < 4294967296 → word (w % 256) (w / 256 % 256) (w / 65536 % 256) (w / 16777216 % 256) ≡ w
 recompose w h =
     let top : w / 16777216 < 256 = omega arith in
     omega (arith, div-div-eq-div-mul w 256 256, div-div-eq-div-mul w 65536 256, mod-eq-of-lt top)

@@ -18,7 +18,7 @@ use Rattle.sublist_snapshot.specs.Snapshot.{standsIn, walkOf}
 use Rattle.resolve_cache.specs.declared.ResolveCache.{ResolveCache}
 use Rattle.resolve_cache.specs.declared.Resolved.{Resolved as Returned}
 use Rattle.resolve_cache.specs.Area.{Area, targetCount, keep, touch}
-use Rattle.resolve_cache.specs.Cache.{short, bad, findFrom, place, adopt, ticked, hit, walked, grown, qualifies, inKept, inOut, cacheNumbers, Resolved, unchanged, missed, hitAt, miss, workBy, work, ifAccepted, resolve}
+use Rattle.resolve_cache.specs.Cache.{short, bad, findFrom, place, adopt, ticked, hit, walked, grown, qualifies, cacheNumbers, Resolved, unchanged, missed, hitAt, miss, workBy, ifAccepted, resolve}
 use Rattle.resolve_cache.specs.Answers.{resolveAnswer, lent, left}
 use Rattle.router_c.specs.declared.CResolved.{CResolved}
 use Rattle.router_c.specs.Calls.{numbered, resolvedWords}

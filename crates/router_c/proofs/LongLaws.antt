@@ -2,11 +2,12 @@
 use mathlib.Core.Path.{_≡_, refl, sym, ap, _∙_}
 use mathlib.Core.List.{List, _++_}
 use Prim.Native.Nat.{ℕ, _+_, _*_, _/_, _%_, _<_}
+use native.Mathlib.Nat.{div-div-eq-div-mul}
 use native.Mathlib.Omega.{arith}
 use lib.ListN.{length, take, drop, getD, set}
-use lib.Seq.{take-at}
-use Rattle.router_c.specs.Bytes.{longAt, longsIn, longByte, bytesOfLongs}
-use Rattle.router_c.proofs.ByteLaws.{length-build, getD-build, grow, grow4}
+use lib.Seq.{take-at, ext-getD}
+use Rattle.router_c.specs.Bytes.{word, longAt, longsIn, longByte, bytesOfLongs}
+use Rattle.router_c.proofs.ByteLaws.{length-build, getD-build, grow, grow4, recompose}
 
 -- a turn's store, with the next place as a number of its own
 step : (s d l : List ℕ) (i m v : ℕ) → m ≡ i + 1 → i < length s → i < length d → v ≡ getD s i 0 → l ≡ take i s ++ drop i d → set l i v ≡ take m s ++ drop m d
@@ -47,3 +48,27 @@ module _ (bs z ws : List ℕ) (n : ℕ) (count : n ≡ length bs / 8) (loaded : 
 
   pub long-front-length : length (take n ws) ≡ n
   long-front-length = ap length long-front ∙ length-longs bs ∙ sym count
+
+low-word : (w : ℕ) → word (w % 256) (w / 256 % 256) (w / 65536 % 256) (w / 16777216 % 256) + w / 4294967296 * 4294967296 ≡ w
+low-word w = omega (arith, div-div-eq-div-mul w 256 256, div-div-eq-div-mul w 65536 256, div-div-eq-div-mul w 16777216 256)
+
+-- the high word's bytes are those of the number from the fifth on
+high-word : (w : ℕ) → w < 18446744073709551616 → word (w / 4294967296 % 256) (w / 1099511627776 % 256) (w / 281474976710656 % 256) (w / 72057594037927936 % 256) ≡ w / 4294967296
+high-word w h =
+    let top : w / 4294967296 < 4294967296 = omega arith in
+    rw (sym (div-div-eq-div-mul w 4294967296 256), sym (div-div-eq-div-mul w 4294967296 65536), sym (div-div-eq-div-mul w 4294967296 16777216)) (recompose (w / 4294967296) top)
+
+recompose-long : (w : ℕ) → w < 18446744073709551616 → word (longByte w 0) (longByte w 1) (longByte w 2) (longByte w 3) + word (longByte w 4) (longByte w 5) (longByte w 6) (longByte w 7) * 4294967296 ≡ w
+recompose-long w h =
+    ap (λ (x : ℕ). word x (longByte w 1) (longByte w 2) (longByte w 3) + word (longByte w 4) (longByte w 5) (longByte w 6) (longByte w 7) * 4294967296) (sym (first-byte w))
+    ∙ ap (λ (x : ℕ). word (w % 256) (longByte w 1) (longByte w 2) (longByte w 3) + x * 4294967296) (high-word w h)
+    ∙ low-word w
+
+-- the round trip: numbers to bytes and back
+pub long-round-trip : (ws : List ℕ) → ((k : ℕ) → getD ws k 0 < 18446744073709551616) → longsIn (bytesOfLongs ws) ≡ ws
+long-round-trip ws small =
+    let n : length (bytesOfLongs ws) ≡ length ws * 8 = length-long-bytes ws in
+    let m : length (longsIn (bytesOfLongs ws)) ≡ length ws = length-longs (bytesOfLongs ws) ∙ omega arith in
+    ext-getD 0 _ _ m (λ k h.
+    getD-build _ (longAt (bytesOfLongs ws)) k (omega arith)
+    ∙ rw (long-byte-at ws k 0 (k * 8) (omega arith) (omega arith) (omega arith), long-byte-at ws k 1 (k * 8 + 1) (omega arith) (omega arith) (omega arith), long-byte-at ws k 2 (k * 8 + 2) (omega arith) (omega arith) (omega arith), long-byte-at ws k 3 (k * 8 + 3) (omega arith) (omega arith) (omega arith), long-byte-at ws k 4 (k * 8 + 4) (omega arith) (omega arith) (omega arith), long-byte-at ws k 5 (k * 8 + 5) (omega arith) (omega arith) (omega arith), long-byte-at ws k 6 (k * 8 + 6) (omega arith) (omega arith) (omega arith), long-byte-at ws k 7 (k * 8 + 7) (omega arith) (omega arith) (omega arith)) (recompose-long (getD ws k 0) (small k)))

@@ -13,7 +13,7 @@ use Rattle.binding.specs.declared.Resolution.{Resolution}
 use Rattle.binding.specs.declared.Resolution.the-variants.{Routed, NoStream, Ambiguous}
 use Rattle.binding.specs.declared.SingleHome.{SingleHome}
 use Rattle.binding.specs.declared.CachedResolution.{CachedResolution}
-use Rattle.binding.specs.Verdict.{Judged, turnedDown, judged, Homed, CachedHomed, resolveSingleHomeCached}
+use Rattle.binding.specs.Verdict.{turnedDown, judged, Homed, CachedHomed, resolveSingleHomeCached}
 use Rattle.binding.specs.Answers.{homeAnswer, cachedAnswer, homed, cachedHomed}
 use Rattle.router_c.specs.Calls.{fill, numbered, answerWords, verdictNumbers, judgedWords}
 

@@ -837,7 +837,7 @@ pub extern "C" fn router_resolve(
     subject: &[u8],
     out: &mut [u32],
 ) -> CResolved
-    ensures { λ r. ⌜ (resolvedWords r ≡ numbered 3 ((resolve (cacheOf cache) (lent (now (heads .entry)) (now (keys .entry)) (now (kept .entry))) (snapshotOf snapshot) (now (area .entry)) (now (subject .entry)) (now (out .entry))) .says) ++ cacheNumbers ((resolve (cacheOf cache) (lent (now (heads .entry)) (now (keys .entry)) (now (kept .entry))) (snapshotOf snapshot) (now (area .entry)) (now (subject .entry)) (now (out .entry))) .cache)) × (lent (now (heads .exit)) (now (keys .exit)) (now (kept .exit)) ≡ (resolve (cacheOf cache) (lent (now (heads .entry)) (now (keys .entry)) (now (kept .entry))) (snapshotOf snapshot) (now (area .entry)) (now (subject .entry)) (now (out .entry))) .area) × (now (out .exit) ≡ (resolve (cacheOf cache) (lent (now (heads .entry)) (now (keys .entry)) (now (kept .entry))) (snapshotOf snapshot) (now (area .entry)) (now (subject .entry)) (now (out .entry))) .out) ⌝ }
+    ensures { λ r. ⌜ Gives r (lent (now (heads .exit)) (now (keys .exit)) (now (kept .exit))) (now (out .exit)) (resolve (cacheOf cache) (lent (now (heads .entry)) (now (keys .entry)) (now (kept .entry))) (snapshotOf snapshot) (now (area .entry)) (now (subject .entry)) (now (out .entry))) ⌝ }
 {
     let own = cache_of(cache);
     let standing = snapshot_of(snapshot);
@@ -1008,7 +1008,7 @@ fn store_longs(longs: &[u64], bytes: &mut [u8])
     }
 }
 
-// 99 of four areas.
+// 99: whether four areas of so many bytes are together more than the copies hold.
 fn copies_full(a: usize, b: usize, c: usize, d: usize) -> bool
     ensures { λ r. ⌜ r ≡ ltb 65536 (a + b + c + d) ⌝ }
 {
@@ -1103,7 +1103,7 @@ pub extern "C" fn router_resolve_bytes(
     subject: &[u8],
     out: &mut [u8],
 ) -> CResolved
-    ensures { λ r. ⌜ (resolvedWords r ≡ numbered 3 ((resolveBytes (cacheOf cache) (lent (now (heads .entry)) (now (keys .entry)) (now (kept .entry))) (snapshotOf snapshot) (now (area .entry)) (now (subject .entry)) (now (out .entry))) .says) ++ cacheNumbers ((resolveBytes (cacheOf cache) (lent (now (heads .entry)) (now (keys .entry)) (now (kept .entry))) (snapshotOf snapshot) (now (area .entry)) (now (subject .entry)) (now (out .entry))) .cache)) × (lent (now (heads .exit)) (now (keys .exit)) (now (kept .exit)) ≡ (resolveBytes (cacheOf cache) (lent (now (heads .entry)) (now (keys .entry)) (now (kept .entry))) (snapshotOf snapshot) (now (area .entry)) (now (subject .entry)) (now (out .entry))) .area) × (now (out .exit) ≡ (resolveBytes (cacheOf cache) (lent (now (heads .entry)) (now (keys .entry)) (now (kept .entry))) (snapshotOf snapshot) (now (area .entry)) (now (subject .entry)) (now (out .entry))) .out) ⌝ }
+    ensures { λ r. ⌜ Gives r (lent (now (heads .exit)) (now (keys .exit)) (now (kept .exit))) (now (out .exit)) (resolveBytes (cacheOf cache) (lent (now (heads .entry)) (now (keys .entry)) (now (kept .entry))) (snapshotOf snapshot) (now (area .entry)) (now (subject .entry)) (now (out .entry))) ⌝ }
 {
     let own = cache_of(cache);
     if copies_full(heads.len(), kept.len(), area.len(), out.len()) {
