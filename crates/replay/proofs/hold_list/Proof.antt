@@ -1,10 +1,10 @@
--- `replay::tally::hold_list` meets its contract: each place that it reads is in the list.
+-- `replay::hold_list` meets its contract: each place that it reads is in the list.
 use mathlib.Core.Path.{_≡_}
 use Prim.Native.Nat.{_-_, _≤_}
 use lib.ListN.{length}
 use borrow.Author.Needs.{needs}
-use Rattle.replay.proofs.tally.hold_list.Statement.{statement}
-use Rattle.replay.proofs.tally.hold_list.Tie as tie
+use Rattle.replay.proofs.hold_list.Statement.{statement}
+use Rattle.replay.proofs.hold_list.Tie as tie
 
 abbrev Inv-loop : tie.InvT-loop
 Inv-loop tally₀ «record» at list place₀ i₀ t8 tally place i =

@@ -1,10 +1,10 @@
--- `replay::texts::load` meets its contract: each place that it writes is in the output.
+-- `replay::load` meets its contract: each place that it writes is in the output.
 use mathlib.Core.Path.{_≡_}
 use Prim.Native.Nat.{_-_, _≤_}
 use lib.ListN.{length}
 use borrow.Author.Needs.{needs}
-use Rattle.replay.proofs.texts.load.Statement.{statement}
-use Rattle.replay.proofs.texts.load.Tie as tie
+use Rattle.replay.proofs.load.Statement.{statement}
+use Rattle.replay.proofs.load.Tie as tie
 
 abbrev Inv-loop : tie.InvT-loop
 Inv-loop «record» at out₀ place₀ i₀ out place i =
