@@ -18,13 +18,13 @@ use Rattle.sublist_tree.specs.Lists.{All}
 use Rattle.sublist_tree.specs.Tree.{worst}
 use Rattle.sublist_tree.specs.Table.{TableEntry, rootOf, Accepted}
 use Rattle.sublist_area.specs.Growing.{planted}
-use Rattle.sublist.specs.declared.Entry.{Entry}
-use Rattle.sublist.specs.Entries.{textOf, readFrom}
+use Rattle.sublist_entries.specs.declared.Entry.{Entry}
+use Rattle.sublist_entries.specs.Entries.{textOf, readFrom}
 use Rattle.sublist.specs.Building.{invalid, badEntry, badEntries, needed, worstOf as worstIn, buildSays}
 use Rattle.sublist.specs.Passes.{linesIn, settled, laidAt, laid, filled}
 use Rattle.sublist.specs.Leaving.{buildLeaves}
 use Rattle.sublist_snapshot.specs.Snapshot.{Table, emptyTable}
-use Rattle.binding.specs.Demand.{worstOf}
+use Rattle.binding.specs.Demand.{worstOf, holding, entriesRefused, BuildRight}
 use Rattle.binding.specs.Built.{BuiltFrom}
 use Rattle.binding.proofs.Tokens.{token-refuses}
 
@@ -136,3 +136,17 @@ empty-built = record {
   oneEach = refl;
   textsRead = refl;
 }
+
+-- ---- the refusals of a build, as they are demanded
+
+holds-as : (a : Answer) → invalid a ≡ holding a
+holds-as (answer zero values) = refl
+holds-as (answer (suc n) values) = refl
+
+refused-as : (texts : List ℕ) (index : ℕ) (es : List Entry) → badEntries texts index es ≡ entriesRefused texts index es
+refused-as texts index [] = refl
+refused-as texts index (e ∷ es) = rw (holds-as (grammar true (textOf texts e)), refused-as texts (index + 1) es)
+
+pub builds-right : (list : List Entry) (texts : List ℕ) (nodesLent targetsLent generation : ℕ) → BuildRight list texts nodesLent targetsLent generation
+unfolding buildSays needed worstIn
+builds-right list texts nodesLent targetsLent generation = rw (refused-as texts 0 list)

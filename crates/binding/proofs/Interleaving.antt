@@ -32,7 +32,7 @@ use Rattle.binding.specs.Verdict.{singleHome, judgeMatch, judgeHanded, j
 use Rattle.binding.specs.Calls.{Call, store, clearing, asking, resolving, askingHome, resolvingHome, Reply, refused, storing, cleared, matched, resolved, home, Kept, Cabinet, replaced, stamped, shown, resolvedAs, homeAs, storeTo, resolveIn, homeIn, reply, after}
 use Rattle.binding.specs.Built.{BuiltFrom}
 use Rattle.binding.specs.Demand.{due, peakDue, worstOf, Standing, start, standingAfter, textFirst, Right, EachRight, Happened, AllRight, SnapshotRight, Opened, Lent, isStore, storesIn, tokensOf, tokensIn, inPlay, HashedApart, Premises, Met}
-use Rattle.binding.proofs.Builds.{built-accepts, built-bound}
+use Rattle.binding.proofs.Builds.{built-accepts, built-bound, builds-right}
 use Rattle.binding.proofs.Tables.{table-holds}
 use Rattle.binding.proofs.Tokens.{Within, within-all, all-left, all-right, no-clash, subject-literals}
 
@@ -305,9 +305,10 @@ module _ (t : Table) (es : List TableEntry) (calls : List Call) (p : Premises t 
   pub interleaving : (area : List ℕ) (b : Cabinet) → Met t es area b calls
   unfolding withCapacity buildSays needed worstIn
   interleaving area b = record {
-    buildsRight = λ list texts nodesLent targetsLent generation. refl;
+    buildsRight = builds-right;
     snapshotRight = making area;
     cachesRight = λ n a. refl;
+    newCachesRight = λ a. refl;
     callsRight = λ o. each-right (inPlay es calls) (p .apart) (start es area) b calls (start-stands area b o) (p .lent) own-calls (omega (arith, p .few));
   }
 

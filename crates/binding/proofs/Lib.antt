@@ -4,4 +4,6 @@ pub mod Builds
 pub mod Tables
 pub mod Judging
 pub mod Interleaving
+pub mod Refusing
 pub mod Rows
+pub mod Instance

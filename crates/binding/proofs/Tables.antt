@@ -6,10 +6,10 @@ use lib.ListN.{length, getD}
 use Rattle.subject.specs.Fnv.{fnv}
 use Rattle.sublist_tree.specs.Table.{TableEntry, rootOf}
 use Rattle.sublist_walk.specs.Holds.{Holds}
-use Rattle.sublist.specs.Entries.{readFrom}
+use Rattle.sublist_entries.specs.Entries.{readFrom}
 use Rattle.sublist.specs.Building.{needed}
 use Rattle.sublist.specs.Passes.{Filling, filling}
-use Rattle.sublist.proofs.Filling.{nodesIn, targetsIn}
+use Rattle.sublist.specs.Passes.{nodeWordsIn, targetWordsIn}
 use Rattle.sublist.proofs.Builds.{taken, build-stands}
 use Rattle.sublist_snapshot.specs.Snapshot.{Table}
 use Rattle.binding.specs.Built.{BuiltFrom}
@@ -21,5 +21,5 @@ table-holds t es f =
     subst (λ l. Holds (t .nodeWords) (t .nodes) (t .targets) (t .targetWords) (rootOf fnv l)) (f .textsRead)
     (subst (λ m. Holds (t .nodeWords) (t .nodes) m (t .targetWords) (rootOf fnv (readFrom (f .store) (f .list)))) (sym (f .oneEach))
     (subst (λ x. Holds (t .nodeWords) x (length (f .list)) (t .targetWords) (rootOf fnv (readFrom (f .store) (f .list)))) n
-    (subst (λ g. Holds (nodesIn g) (needed (f .store) (f .list)) (length (f .list)) (targetsIn g) (rootOf fnv (readFrom (f .store) (f .list)))) (f .areasLeft)
+    (subst (λ g. Holds (nodeWordsIn g) (needed (f .store) (f .list)) (length (f .list)) (targetWordsIn g) (rootOf fnv (readFrom (f .store) (f .list)))) (f .areasLeft)
     (build-stands (f .list) (f .store) (f .nodesLent) (f .targetsLent) (k .0)))))

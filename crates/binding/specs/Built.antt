@@ -5,8 +5,8 @@ use mathlib.Core.List.{List, [], _∷_}
 use lib.ListN.{length}
 use Rattle.subject.specs.Answers.{answer}
 use Rattle.sublist_tree.specs.Table.{TableEntry}
-use Rattle.sublist.specs.declared.Entry.{Entry}
-use Rattle.sublist.specs.Entries.{readFrom}
+use Rattle.sublist_entries.specs.declared.Entry.{Entry}
+use Rattle.sublist_entries.specs.Entries.{readFrom}
 use Rattle.sublist.specs.Building.{buildSays}
 use Rattle.sublist.specs.Passes.{filling}
 use Rattle.sublist.specs.Leaving.{buildLeaves}

@@ -1,26 +1,27 @@
 -- Demand 3, stated: "Stores, clears, matches and resolves may be interleaved in any way."
-use Prim.Native.Nat.{ℕ, zero, suc, _≤_, _<_, _^_, max}
+use Prim.Native.Nat.{ℕ, zero, suc, _+_, _*_, _≤_, _<_, _^_, max}
 use mathlib.Core.Path.{_≡_}
-use mathlib.Core.Bool.{false}
+use mathlib.Core.Bool.{Bool, true, false}
 use mathlib.Core.List.{List, [], _∷_, _++_, map}
+use mathlib.Core.Option.{Option, none, some}
 use lib.Dec.{eqb, ltb}
-use lib.ListN.{length}
-use Rattle.subject.specs.Choice.{pick}
+use lib.ListN.{length, take, drop}
+use Rattle.subject.specs.Choice.{pick, or}
 use Rattle.subject.specs.Text.{same, tokens}
 use Rattle.subject.specs.Fnv.{fnv}
 use Rattle.subject.specs.Answers.{Answer, answer, unless}
-use Rattle.subject.specs.Grammar.{grammar}
+use Rattle.subject.specs.Grammar.{firstOf, grammar}
 use Rattle.sublist_tree.specs.Lists.{concat, sum, sort, All}
 use Rattle.sublist_tree.specs.Tree.{targetOf, worst}
 use Rattle.sublist_tree.specs.Due.{precedes}
 use Rattle.sublist_tree.specs.Nodes.{nodes, peakOf}
 use Rattle.sublist_tree.specs.Table.{TableEntry, rootOf, matchingEntries, literals}
-use Rattle.sublist.specs.declared.Entry.{Entry}
-use Rattle.sublist.specs.Entries.{readFrom}
-use Rattle.sublist.specs.Building.{badEntries, buildSays}
-use Rattle.sublist_snapshot.specs.Snapshot.{Table, lengthOf, first, snapshotNumbers, make}
+use Rattle.sublist_entries.specs.declared.Entry.{Entry}
+use Rattle.sublist_entries.specs.Entries.{readFrom}
+use Rattle.sublist.specs.Building.{buildSays}
+use Rattle.sublist_snapshot.specs.Snapshot.{Table, snapshotNumbers, make}
 use Rattle.resolve_cache.specs.Area.{Area}
-use Rattle.resolve_cache.specs.Cache.{short, fresh, cacheNumbers, withCapacity}
+use Rattle.resolve_cache.specs.Cache.{cacheNumbers, withCapacity, newCache}
 use Rattle.binding.specs.Verdict.{singleHome}
 use Rattle.binding.specs.Built.{BuiltFrom}
 use Rattle.binding.specs.Calls.{Call, store, clearing, asking, resolving, askingHome, resolvingHome, Reply, refused, storing, cleared, matched, resolved, home, Cabinet, reply, after}
@@ -40,6 +41,10 @@ worstOf es = worst eqb 32 (rootOf fnv es)
 abbrev pub nodesOf : List TableEntry → ℕ
 nodesOf es = length (nodes eqb (rootOf fnv es))
 
+-- "a table's length is its nodes' words plus its target words"; a node takes sixteen words
+abbrev pub wordsOf : Table → ℕ
+wordsOf t = t .nodes * 16 + t .targets
+
 -- the standing table's entries, the number of accepted stores, and the words of the snapshot's area
 pub record Standing : Type 0 where
   pub entries : List TableEntry
@@ -52,7 +57,7 @@ start es area = record { entries = es; stores = 0; room = length area }
 
 -- and that of the last accepted store after it
 abbrev pub standingAfter : Standing → Call → Standing
-standingAfter s (store t es) = pick (ltb (s .room) (lengthOf t)) s (record { entries = es; stores = suc (s .stores); room = s .room })
+standingAfter s (store t es) = pick (ltb (s .room) (wordsOf t)) s (record { entries = es; stores = suc (s .stores); room = s .room })
 standingAfter s (clearing i) = s
 standingAfter s (asking subject out) = s
 standingAfter s (resolving i subject out) = s
@@ -71,7 +76,7 @@ demanded dues subject room given = textFirst (grammar false subject) (pick (ltb 
 -- what is asked of the reply to one call
 abbrev pub Right : Standing → Call → Reply → Type 0
 -- a store is refused exactly when the snapshot's area is shorter than its table, and otherwise returns its generation, which is its number among the accepted stores
-Right s (store t es) r = r ≡ pick (ltb (s .room) (lengthOf t)) (refused (answer 20 [])) (storing (suc (s .stores)))
+Right s (store t es) r = r ≡ pick (ltb (s .room) (wordsOf t)) (refused (answer 20 [])) (storing (suc (s .stores)))
 -- a clear is never refused
 Right s (clearing i) r = r ≡ cleared
 -- the verdict is that of the list; the peak is 01's, and at most the worst case, which is at most 1,024; the generation is the standing table's
@@ -101,12 +106,27 @@ abbrev pub AllRight : Standing → List (Call × Reply × Cabinet) → Type 0
 AllRight s [] = Unit {0}
 AllRight s (x ∷ xs) = Right s (x .0) (x .1) × AllRight (standingAfter s (x .0)) xs
 
+-- 12: "start plus length exceeds the bytes of the lent text store"; 13, "holding the refusal 1 to 9 of that entry's text"
+abbrev pub holding : Answer → Option Answer
+holding (answer zero values) = none
+holding (answer (suc n) values) = some (answer 13 (suc n ∷ values))
+
+abbrev pub entryRefused : List ℕ → ℕ → Entry → Option Answer
+entryRefused texts index e =
+    pick (ltb (length texts) (e .start + e .length)) (some (answer 12 (index ∷ [])))
+    (holding (grammar true (take (e .length) (drop (e .start) texts))))
+
+-- "entries are read in order, 12 before 13 for each"
+abbrev pub entriesRefused : List ℕ → ℕ → List Entry → Option Answer
+entriesRefused texts index [] = none
+entriesRefused texts index (e ∷ es) = firstOf (entryRefused texts index e) (entriesRefused texts (index + 1) es)
+
 -- a build is refused exactly when its list has over 2,048 entries (10), an entry's text lies outside the store or is no pattern (12, 13, the first such entry), the lent nodes are
 -- fewer than the distinct runs (14), the target words fewer than the entries (15), or the worst case is over 1,024 (16); otherwise it gives these two counts
 abbrev pub built : List Entry → List ℕ → ℕ → ℕ → ℕ → List TableEntry → Answer
 built list texts nodesLent targetsLent generation es =
     pick (ltb 2048 (length list)) (answer 10 [])
-    (unless (badEntries texts 0 list)
+    (unless (entriesRefused texts 0 list)
     (pick (ltb nodesLent (nodesOf es)) (answer 14 (nodesOf es ∷ []))
     (pick (ltb targetsLent (length list)) (answer 15 [])
     (pick (ltb 1024 (worstOf es)) (answer 16 (worstOf es ∷ 1024 ∷ []))
@@ -116,13 +136,31 @@ abbrev pub BuildRight : List Entry → List ℕ → ℕ → ℕ → ℕ → Type
 BuildRight list texts nodesLent targetsLent generation =
     buildSays list texts nodesLent targetsLent generation ≡ built list texts nodesLent targetsLent generation (readFrom texts list)
 
--- the making of the snapshot is refused exactly when its area is shorter than the first table, with 20, for a built table's counts are within its areas (19)
+-- the making of the snapshot is refused exactly when its area is shorter than the first table, with 20, for a built table's counts are within its areas (19);
+-- it "keeps the generation that build gave it. Its counter starts at 1"
 abbrev pub SnapshotRight : Table → List ℕ → Type 0
-SnapshotRight t area = (make t area) .says ≡ pick (ltb (length area) (lengthOf t)) (answer 20 []) (answer 0 (snapshotNumbers (first t)))
+SnapshotRight t area =
+    (make t area) .says
+    ≡ pick (ltb (length area) (wordsOf t)) (answer 20 []) (answer 0 (t .nodes ∷ t .targets ∷ t .generation .0 ∷ 1 ∷ []))
 
--- the making of a cache is refused exactly when its capacity, 0 turned into 1, is over 1,024 or its area is smaller than so many slots (17)
+-- 17: "capacity over 1,024, or the lent cache store is smaller than capacity slots"; a slot takes three numbers, 256 bytes and 16 targets
+abbrev pub cacheShort : ℕ → Area → Bool
+cacheShort capacity a =
+    or (ltb 1024 capacity)
+    (or (ltb (length (a .heads)) (3 * capacity))
+    (or (ltb (length (a .keys)) (256 * capacity))
+    (ltb (length (a .kept)) (16 * capacity))))
+
+-- the making of a cache is refused exactly so; "`with_capacity` turns 0 into 1"; "A fresh cache has generation, tick and walks 0", and no slot used
+abbrev pub cacheMade : ℕ → Area → Answer
+cacheMade capacity a = pick (cacheShort capacity a) (answer 17 []) (answer 0 (capacity ∷ 0 ∷ 0 ∷ 0 ∷ 0 ∷ []))
+
 abbrev pub CacheRight : ℕ → Area → Type 0
-CacheRight n a = withCapacity n a ≡ pick (short (max 1 n) a) (answer 17 []) (answer 0 (cacheNumbers (fresh (max 1 n))))
+CacheRight n a = withCapacity n a ≡ cacheMade (max 1 n) a
+
+-- "`DEFAULT_CAPACITY` is 1,024"
+abbrev pub NewCacheRight : Area → Type 0
+NewCacheRight a = newCache a ≡ cacheMade 1024 a
 
 -- "one fresh snapshot and fresh caches used with it alone": the states that accepted makings returned, and the areas that they left
 pub record Opened (t : Table) (area : List ℕ) (b : Cabinet) : Type 0 where
@@ -185,4 +223,5 @@ pub record Met (t : Table) (es : List TableEntry) (area : List ℕ) (b : Cabinet
   pub buildsRight : (list : List Entry) (texts : List ℕ) (nodesLent targetsLent generation : ℕ) → BuildRight list texts nodesLent targetsLent generation
   pub snapshotRight : SnapshotRight t area
   pub cachesRight : (n : ℕ) (a : Area) → CacheRight n a
+  pub newCachesRight : (a : Area) → NewCacheRight a
   pub callsRight : Opened t area b → EachRight (start es area) b calls

@@ -4,4 +4,5 @@ pub mod Answers
 pub mod Calls
 pub mod Built
 pub mod Demand
+pub mod Refusing
 pub mod Timetable

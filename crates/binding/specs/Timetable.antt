@@ -1,23 +1,25 @@
 -- 01's timetable: its rows marked P as data. Those of texts and of tables without an area are sublist_tree's; here are those that build a table and make calls on it.
 use Prim.Native.Nat.{ℕ, zero, suc, _+_, _*_}
+use Prim.Native.Char.{code}
 use Prim.Native.String.{String}
 use mathlib.Core.Path.{_≡_}
 use mathlib.Core.List.{List, [], _∷_, _++_, map}
 use lib.ListN.{length, replicate}
 use Rattle.subject.specs.Answers.{Answer, answer}
-use Rattle.sublist_tree.specs.Lists.{concat}
+use Rattle.sublist_tree.specs.Lists.{concat, All}
 use Rattle.sublist_tree.specs.Table.{TableEntry}
 use Rattle.sublist_tree.specs.Timetable.{bytes, entry, Row as TextRow, holds as holdsText, timetable as textTimetable}
-use Rattle.sublist.specs.declared.Entry.{Entry}
+use Rattle.sublist_entries.specs.declared.Entry.{Entry}
 use Rattle.sublist.specs.Building.{buildSays}
 use Rattle.sublist.specs.Passes.{Filling, filling}
 use Rattle.sublist.specs.Leaving.{buildLeaves}
 use Rattle.sublist_snapshot.specs.Snapshot.{Table, lengthOf, first, copied}
 use Rattle.resolve_cache.specs.Area.{Area, keyAt}
 use Rattle.resolve_cache.specs.Cache.{fresh}
+use Rattle.resolve_cache.specs.Rows.{Row as CacheRow, holds as holdsLent, rows as cacheRows}
 use Rattle.binding.specs.declared.Resolution.{Resolution}
 use Rattle.binding.specs.declared.Resolution.the-variants.{Routed, NoStream, Ambiguous}
-use Rattle.binding.specs.Calls.{Call, store, clearing, asking, resolving, Reply, storing, matched, resolved, Kept, Cabinet, reply, after}
+use Rattle.binding.specs.Calls.{Call, store, clearing, asking, resolving, askingHome, resolvingHome, Reply, refused, storing, cleared, matched, resolved, home, Kept, Cabinet, reply, after}
 use Rattle.binding.specs.Demand.{Opened}
 
 -- the entries as a lent list: their texts one behind another in the store
@@ -76,12 +78,27 @@ resolve subject = resolving 0 (bytes subject) (replicate 16 0)
 pub data Row : Type 0 where
   -- a row of sublist_tree
   text : TextRow → Row
+  -- a row of resolve_cache, one of ours
+  lent : CacheRow → Row
   -- entries, a subject, its list and verdict, the peak, the worst case, the node count
   asRoute : (entries : List TableEntry) (subject : String) (list : List ℕ) (verdict : Resolution) (peak worst nodes : ℕ) → Row
   -- the node count and entries of the first table, calls and their replies
   asCalls : (nodes : ℕ) (entries : List TableEntry) (calls : List Call) (answers : List Reply) → Row
   -- a capacity, calls on a cache over the empty table, the walks counted and the subjects kept at the end
   asCache : (capacity : ℕ) (calls : List Call) (walks : ℕ) (kept : List String) → Row
+
+-- build accepts the entries, lent so many nodes, all of which it uses
+abbrev pub Accepts : ℕ → List TableEntry → Type 0
+Accepts nodes es = (worst : ℕ) × (buildFor nodes es ≡ answer 0 (nodes ∷ worst ∷ 0 ∷ []))
+
+-- a table that is stored is as an accepted build of its entries left it
+abbrev pub Stored : Call → Type 0
+Stored (store t es) = (nodes : ℕ) × (t ≡ tableOf nodes es) × Accepts nodes es
+Stored (clearing i) = Unit {0}
+Stored (asking subject out) = Unit {0}
+Stored (resolving i subject out) = Unit {0}
+Stored (askingHome subject out) = Unit {0}
+Stored (resolvingHome i subject out) = Unit {0}
 
 -- the makings are accepted
 abbrev pub Opens : ℕ → Table → Type 0
@@ -90,23 +107,41 @@ Opens capacity t = Opened t (wordsFor t) (cabinet capacity t)
 -- the definitions give the row
 abbrev pub holds : Row → Type 0
 holds (text row) = holdsText row
+holds (lent row) = holdsLent row
 holds (asRoute es subject list verdict peak worst nodes) =
     (buildFor nodes es ≡ answer 0 (nodes ∷ worst ∷ 0 ∷ [])) × Opens 1 (tableOf nodes es)
     × (replies (cabinet 1 (tableOf nodes es)) (ask subject ∷ resolve subject ∷ []) ≡ matched list verdict peak 0 ∷ resolved list verdict ∷ [])
-holds (asCalls nodes es calls answers) = Opens 1 (tableOf nodes es) × (replies (cabinet 1 (tableOf nodes es)) calls ≡ answers)
+holds (asCalls nodes es calls answers) =
+    Accepts nodes es × All Stored calls × Opens 1 (tableOf nodes es) × (replies (cabinet 1 (tableOf nodes es)) calls ≡ answers)
 holds (asCache capacity calls walks kept) =
     let k = (leaving (cabinet capacity (tableOf 1 [])) calls) .caches 0 in
     Opens capacity (tableOf 1 []) × (k .cache .walks ≡ walks) × (subjectsIn k ≡ map bytes kept)
+
+-- 01's five entries, and calls of every kind
+abbrev pub fiveEntries : List TableEntry
+fiveEntries = entry "a.b" 1 ∷ entry ">" 2 ∷ entry "*.b" 3 ∷ entry "a.>" 4 ∷ entry "a.b" 5 ∷ []
+
+abbrev pub otherEntries : List TableEntry
+otherEntries = entry "c" 7 ∷ []
+
+abbrev pub everyCall : List Call
+everyCall =
+    ask "a.b" ∷ resolve "a.b" ∷ store (tableOf 2 otherEntries) otherEntries ∷ resolve "a.b" ∷ resolvingHome 0 (bytes "c") (0 ∷ [])
+    ∷ clearing 0 ∷ resolve "*" ∷ askingHome (bytes "c") [] ∷ []
 
 -- the rows with calls
 unfoldable pub callRows : List Row
 callRows =
     -- entries a.b 1, > 2, *.b 3, a.> 4, a.b 5; subject `a.b`: list 2, 4, 1, 5, 3; Ambiguous 5; peak 2, worst case 2, nodes 5
-    asRoute (entry "a.b" 1 ∷ entry ">" 2 ∷ entry "*.b" 3 ∷ entry "a.>" 4 ∷ entry "a.b" 5 ∷ []) "a.b" (2 ∷ 4 ∷ 1 ∷ 5 ∷ 3 ∷ []) (Ambiguous 5) 2 2 5
+    asRoute fiveEntries "a.b" (2 ∷ 4 ∷ 1 ∷ 5 ∷ 3 ∷ []) (Ambiguous 5) 2 2 5
     -- no entries, subject `a`: NoStream, peak 1, worst case 1, nodes 1
     ∷ asRoute [] "a" [] NoStream 1 1 1
     -- first table a 7, generation 0: resolve `a` is Routed 7; store the empty table (generation 1): NoStream
     ∷ asCalls 2 (entry "a" 7 ∷ []) (resolve "a" ∷ store (tableOf 1 []) [] ∷ resolve "a" ∷ []) (resolved (7 ∷ []) (Routed 7) ∷ storing 1 ∷ resolved [] NoStream ∷ [])
+    -- ours, not 01's: calls of every kind on the five entries, with a store, a refused text and an output too short; demand 3's premises hold of them (Instance)
+    ∷ asCalls 5 fiveEntries everyCall
+    (matched (2 ∷ 4 ∷ 1 ∷ 5 ∷ 3 ∷ []) (Ambiguous 5) 2 0 ∷ resolved (2 ∷ 4 ∷ 1 ∷ 5 ∷ 3 ∷ []) (Ambiguous 5) ∷ storing 1
+    ∷ resolved [] NoStream ∷ home (Routed 7) [] ∷ cleared ∷ refused (answer 7 (code "*" ∷ 0 ∷ [])) ∷ refused (answer 21 (1 ∷ [])) ∷ [])
     -- capacity 2, resolve p, q, p, r: q is dropped, walks 3
     ∷ asCache 2 (resolve "p" ∷ resolve "q" ∷ resolve "p" ∷ resolve "r" ∷ []) 3 ("p" ∷ "r" ∷ [])
     -- ours, not 01's: capacity 2, resolve p, clear, resolve p: walks 2
@@ -115,4 +150,4 @@ callRows =
 
 -- all rows
 unfoldable pub timetable : List Row
-timetable = map text textTimetable ++ callRows
+timetable = map text textTimetable ++ (callRows ++ map lent cacheRows)

@@ -1,12 +1,12 @@
--- The original's cache: what a resolve hands on and leaves; and, while no two tables that stood had one generation, its entries are what a walk gives where it is on the standing table's.
+-- The original's cache: what a resolve hands on and leaves; and that its entries stay what a walk of a table gives, where it is on that table's generation.
 --
 --   resolve-gives      a resolve hands on the entry's list, or what a walk gives, and leaves what leftOf says
 --   trusty-list        Trusty → that list is what a walk gives
 --   left-trusty        Trusty → and what is left is Trusty again
---   stored-trusty, clear-trusty, fresh-trusty
+--   left-on            what is left is on the table's generation
 use Prim.Native.Nat.{ℕ}
 use native.Mathlib.Omega.{arith}
-use mathlib.Core.Path.{_≡_, refl, sym, _∙_, ap, subst}
+use mathlib.Core.Path.{_≡_, refl, sym, _∙_, ap}
 use mathlib.Core.Bool.{Bool, true, false}
 use mathlib.Core.List.{List, [], _∷_, _++_}
 use mathlib.Core.Option.{Option, none, some}
@@ -16,9 +16,8 @@ use borrow.Author.Tests.{eqb-true}
 use Rattle.subject.specs.Choice.{or}
 use Rattle.subject.specs.Original.{if_then_else_, equal}
 use Rattle.sublist_tree.specs.Table.{TableEntry}
-use Rattle.sublist_walk.specs.Walk.{among}
 use Rattle.sublist_original.specs.Original.{Ok, Std}
-use Rattle.binding_original.specs.Original.{SublistSnapshot, CacheEntry, HashMap, Iter, ResolveCache, Each, get, refresh, remove, with-capacity, clear, guarded, without, evict-if-full, hit, miss, looked-up, resolve-with, wrapping-add}
+use Rattle.binding_original.specs.Original.{SublistSnapshot, CacheEntry, HashMap, Iter, ResolveCache, Each, get, refresh, remove, guarded, without, evict-if-full, hit, miss, looked-up, resolve-with, wrapping-add}
 use Rattle.binding_original.proofs.Stamping.{walkedBy, Walks}
 
 pub or-false : (x y : Bool) → or x y ≡ false → (x ≡ false) × (y ≡ false)
@@ -102,58 +101,46 @@ resolve-gives std iter f es snapshot cache g text walks gen =
 
 -- ---- what holds between calls
 
--- g is the standing table's generation, stood are those of the tables that stood
-pub record Trusty (due : List ℕ → List ℕ) (g : ℕ) (stood : List ℕ) (cache : ResolveCache ℕ) : Type 0 where
-  -- a cache that is on none of them is empty
-  pub past : among (cache .generation) stood ≡ false → cache .entries ≡ []
-  pub kept : cache .generation ≡ g → Each (Kept due) (cache .entries)
+-- if the cache is on a table's generation g, its entries are what a walk of the table gives
+abbrev pub Trusty : (List ℕ → List ℕ) → ℕ → ResolveCache ℕ → Type 0
+Trusty due g cache = cache .generation ≡ g → Each (Kept due) (cache .entries)
 
-pub fresh-trusty : (due : List ℕ → List ℕ) (g : ℕ) (stood : List ℕ) (n : ℕ) → Trusty due g stood (with-capacity n)
-fresh-trusty due g stood n = record { past = λ e. refl; kept = λ e. tt }
+pub guarded-on : (g : ℕ) (cache : ResolveCache ℕ) → (guarded g cache) .generation ≡ g
+guarded-on g cache = go (eqb g (cache .generation)) refl
+  where
+    go : (b : Bool) → eqb g (cache .generation) ≡ b → (if b then cache else record { entries = []; generation = g; capacity = cache .capacity; tick = 0; walks = cache .walks }) .generation ≡ g
+    go true q = sym (eqb-true g (cache .generation) q)
+    go false q = refl
 
-pub clear-trusty : (due : List ℕ → List ℕ) (g : ℕ) (stood : List ℕ) (cache : ResolveCache ℕ) → Trusty due g stood (clear cache)
-clear-trusty due g stood cache = record { past = λ e. refl; kept = λ e. tt }
+pub left-on : (iter : Iter ℕ) (g : ℕ) (cache : ResolveCache ℕ) (text list : List ℕ) (r : Option (CacheEntry ℕ)) → (leftOf iter (guarded g cache) text list r) .generation ≡ g
+left-on iter g cache text list (some e) = guarded-on g cache
+left-on iter g cache text list none = guarded-on g cache
 
--- a table with a new generation
-pub stored-trusty : (due later : List ℕ → List ℕ) (g h : ℕ) (stood : List ℕ) (cache : ResolveCache ℕ) → among h stood ≡ false → Trusty due g stood cache → Trusty later h (h ∷ stood) cache
-stored-trusty due later g h stood cache new t = record {
-  past = λ e. t .past (or-false (eqb (cache .generation) h) (among (cache .generation) stood) e .1);
-  kept = λ e. subst (Each (Kept later)) (sym (t .past (ap (λ k. among k stood) e ∙ new))) tt;
-}
-
-module _ (due : List ℕ → List ℕ) (g : ℕ) (stood : List ℕ) (cache : ResolveCache ℕ) (t : Trusty due g stood cache) where
+module _ (due : List ℕ → List ℕ) (g : ℕ) (cache : ResolveCache ℕ) (t : Trusty due g cache) where
   abbrev on : ResolveCache ℕ
   on = guarded g cache
 
-  guarded-kept : ((guarded g cache) .generation ≡ g) × Each (Kept due) ((guarded g cache) .entries)
+  guarded-kept : Each (Kept due) ((guarded g cache) .entries)
   guarded-kept = go (eqb g (cache .generation)) refl
     where
       go : (b : Bool) → eqb g (cache .generation) ≡ b
-          → ((if b then cache else record { entries = []; generation = g; capacity = cache .capacity; tick = 0; walks = cache .walks }) .generation ≡ g)
-          × Each (Kept due) ((if b then cache else record { entries = []; generation = g; capacity = cache .capacity; tick = 0; walks = cache .walks }) .entries)
-      go true q = let e = sym (eqb-true g (cache .generation) q) in (e, t .kept e)
-      go false q = (refl, tt)
+          → Each (Kept due) ((if b then cache else record { entries = []; generation = g; capacity = cache .capacity; tick = 0; walks = cache .walks }) .entries)
+      go true q = t (sym (eqb-true g (cache .generation) q))
+      go false q = tt
 
   module _ (text : List ℕ) where
     pub trusty-list : listOf (due text) (get (on .entries) text) ≡ due text
     trusty-list = go (get (on .entries) text) refl
       where
         go : (r : Option (CacheEntry ℕ)) → get (on .entries) text ≡ r → listOf (due text) r ≡ due text
-        go (some e) q = get-kept due (on .entries) text e (guarded-kept .1) q
+        go (some e) q = get-kept due (on .entries) text e guarded-kept q
         go none q = refl
 
-    -- the standing table's generation is among those that stood
-    pub left-trusty : (iter : Iter ℕ) → among g stood ≡ true → Trusty due g stood (leftOf iter on text (due text) (get (on .entries) text))
-    left-trusty iter stands = go (get (on .entries) text)
+    pub left-trusty : (iter : Iter ℕ) → Each (Kept due) ((leftOf iter on text (due text) (get (on .entries) text)) .entries)
+    left-trusty iter = go (get (on .entries) text)
       where
-        again : (x : ResolveCache ℕ) → x .generation ≡ (guarded g cache) .generation → Each (Kept due) (x .entries) → Trusty due g stood x
-        again x e k = record {
-          past = λ q. let same : among (x .generation) stood ≡ true = ap (λ n. among n stood) (e ∙ guarded-kept .0) ∙ stands in let z : _≡_ {A = ℕ} 0 1 = cc in absurd (omega arith);
-          kept = λ q. k;
-        }
-
-        go : (r : Option (CacheEntry ℕ)) → Trusty due g stood (leftOf iter on text (due text) r)
-        go (some e) = again (hit on text) refl (refresh-kept due (on .entries) text (wrapping-add (on .tick) 1) (guarded-kept .1))
-        go none = again (miss iter on text (due text)) refl
-            (push-kept due (remove (evict-if-full iter on) text) (text, record { targets = due text; last-used = wrapping-add (on .tick) 1 })
-            (remove-kept due (evict-if-full iter on) text (evict-kept due iter on (guarded-kept .1))) refl)
+        go : (r : Option (CacheEntry ℕ)) → Each (Kept due) ((leftOf iter on text (due text) r) .entries)
+        go (some e) = refresh-kept due (on .entries) text (wrapping-add (on .tick) 1) guarded-kept
+        go none =
+            push-kept due (remove (evict-if-full iter on) text) (text, record { targets = due text; last-used = wrapping-add (on .tick) 1 })
+            (remove-kept due (evict-if-full iter on) text (evict-kept due iter on guarded-kept)) refl

@@ -13,7 +13,10 @@ pub mod SameResolve
 pub mod Texts
 -- Every list of calls.
 pub mod Together
+pub mod Steps
 pub mod Resolves
 pub mod SameCalls
 -- The theorem, with nothing left open.
 pub mod Whole
+-- Two snapshots of one generation and one cache.
+pub mod Shared

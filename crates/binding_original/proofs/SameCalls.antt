@@ -1,8 +1,9 @@
 -- Whatever the list of calls: the answers are the original's, and so are the caches without a resolve that ours did not keep.
 --
 --   step          Together → one call on both sides is Compared, and Together holds of what it leaves
---   calls-same    fresh and opened on both sides, equal capacities, fewer than 2^64 calls, the same calls → EachSame
-use Prim.Native.Nat.{ℕ, suc, _+_, _<_, _^_}
+--   start         fresh and opened on both sides, equal capacities → Together
+--   calls-same    so, fewer than 2^64 calls, the same calls → EachSame
+use Prim.Native.Nat.{ℕ, suc, _+_, _≤_, _<_, _^_}
 use native.Mathlib.Omega.{arith}
 use mathlib.Core.Path.{_≡_, refl, sym, _∙_, ap, subst}
 use mathlib.Core.Bool.{Bool, true, false}
@@ -15,35 +16,43 @@ use Rattle.subject.specs.Fnv.{fnv}
 use Rattle.subject.specs.Answers.{answer}
 use Rattle.sublist_tree.specs.Lists.{All}
 use Rattle.sublist_tree.specs.Table.{TableEntry, rootOf}
-use Rattle.sublist_tree.proofs.Bytes.{eqb-whole}
-use Rattle.sublist_original.specs.Original.{Outcome, Std, Sublist}
+use Rattle.sublist_original.specs.Original.{Outcome, Ok, Std, Sublist, build}
 use Rattle.sublist_original.specs.Entries.{builderOf}
 use Rattle.sublist_snapshot.specs.declared.Snapshot.{Snapshot}
-use Rattle.sublist_snapshot.specs.Snapshot.{Table, lengthOf, copied, first, snapshotNumbers, Made}
+use Rattle.sublist_snapshot.specs.Snapshot.{Table, lengthOf, copied, first, snapshotNumbers, Made, make}
 use Rattle.sublist_snapshot.proofs.Copies.{copied-holds, make-full, make-fits}
 use Rattle.binding.specs.Calls as ours
-use Rattle.binding.specs.Calls.{Call, store, clearing, asking, resolving, askingHome, resolvingHome, Cabinet, reply, after}
+use Rattle.binding.specs.Calls.{Call, store, clearing, asking, resolving, askingHome, resolvingHome}
 use Rattle.binding.specs.Demand.{Opened, Lent}
 use Rattle.binding.specs.Built.{BuiltFrom}
 use Rattle.binding.proofs.Builds.{built-accepts, built-bound}
 use Rattle.binding.proofs.Tables.{table-holds}
 use Rattle.binding_original.specs.Original as original
-use Rattle.binding_original.specs.Original.{Iter, ResolveCache, SublistSnapshot}
-use Rattle.binding_original.specs.Calls.{World, Asked, Told, call, added, Answered, Compared, asked, Tabled, SameCall, Fresh}
-use Rattle.binding_original.specs.Caches.{Seen, unseen, seenAfter, compares, EachSame}
-use Rattle.binding_original.proofs.Stamping.{walkedBy, Walks, stamped-walks, stamped-same}
+use Rattle.binding_original.specs.Original.{Iter, ResolveCache}
+use Rattle.binding_original.specs.Calls.{SnapshotInArea, Yard, cabinetOf, NamedCall, replyOn, afterOn, World, Asked, Told, call, added, Answered, Compared, asked, Tabled, SameCall, Fresh}
+use Rattle.binding_original.specs.Caches.{Seen, unseen, meeting, metBy, seenAfter, compares, EachSame}
+use Rattle.binding_original.proofs.Stamping.{Walks, stamped-walks, stamped-same}
 use Rattle.binding_original.proofs.SameResolve.{Sound, fresh-sound}
-use Rattle.binding_original.proofs.Together.{Together, Step, store-step, clear-step, asking-step, asking-home-step}
+use Rattle.binding_original.proofs.Together.{Both, standsAt, Together, meets, met-named}
+use Rattle.binding_original.proofs.Steps.{store-step, clear-step, asking-step, asking-home-step}
 use Rattle.binding_original.proofs.Resolves.{resolving-step, resolving-home-step}
 
-module _ (std : Std) (iter : Iter ℕ) (k : Seen) (m : ℕ) (b : Cabinet) (w : World) (j : Together std k m b w) where
-  step : (table : Sublist ℕ) → suc m < 2 ^ 64 → (c : Call) → Lent c → Tabled std table c → Step std iter k m b w c (asked table c)
-  step table few (store t es) lent same = store-step std iter k m b w j t es table lent same
-  step table few (clearing i) lent same = clear-step std iter k m b w j i
-  step table few (asking subject out) lent same = asking-step std iter k m b w j subject out
-  step table few (resolving i subject out) lent same = resolving-step std iter k m b w j subject out i few
-  step table few (askingHome subject out) lent same = asking-home-step std iter k m b w j subject out
-  step table few (resolvingHome i subject out) lent same = resolving-home-step std iter k m b w j subject out i few
+module _ (std : Std) (iter : Iter ℕ) (k : Seen) (m : ℕ) (y : Yard) (w : World) (held : Together std k m y w) where
+  -- what is known when a call is made on snapshot j
+  abbrev met : ℕ → Seen
+  met j = meeting k j (standsAt y j)
+
+  then′ : (j : ℕ) → Together std (met j) m y w
+  then′ j = meets std k m y w j held
+
+  step : (table : Sublist ℕ) → suc m < 2 ^ 64 → (n : NamedCall) → Lent (n .1) → Tabled std table (n .1)
+      → Compared (compares (metBy k y n) (n .1)) (replyOn y n) w (call std iter w (asked table n)) (Together std (seenAfter k y n) (suc m) (afterOn y n))
+  step table few (j, store t es) lent same = store-step std iter (met j) m y w (then′ j) j t es table lent same
+  step table few (j, clearing i) lent same = clear-step std iter k m y w held j i
+  step table few (j, asking subject out) lent same = asking-step std iter (met j) m y w (then′ j) j subject out
+  step table few (j, resolving i subject out) lent same = resolving-step std iter (met j) m y w (then′ j) j (met-named k j (standsAt y j)) subject out i few
+  step table few (j, askingHome subject out) lent same = asking-home-step std iter (met j) m y w (then′ j) j subject out
+  step table few (j, resolvingHome i subject out) lent same = resolving-home-step std iter (met j) m y w (then′ j) j (met-named k j (standsAt y j)) subject out i few
 
 -- ---- every list of calls
 
@@ -56,19 +65,20 @@ compared-map c r w given P Q f x = go (added r) x
     go false (y, e, p, here) = (y, e, p, f (y .1) here)
 
 -- our calls of a list of both
-abbrev pub firsts : List (Call × Asked) → List Call
-firsts calls = map (λ x. x .0) calls
+abbrev pub firsts : List (NamedCall × Asked) → List Call
+firsts calls = map (λ x. x .0 .1) calls
 
 module _ (std : Std) (iter : Iter ℕ) where
-  each-same : (k : Seen) (m : ℕ) (b : Cabinet) (w : World) (calls : List (Call × Asked)) → Together std k m b w → All Lent (firsts calls) → All (SameCall std) calls → m + length calls < 2 ^ 64
-      → EachSame std iter k b w calls
-  each-same k m b w [] j lent same few = λ i e. j .caches i .near e .same
-  each-same k m b w ((c, d) ∷ calls) j lent same few = (
-    (λ i e. j .caches i .near e .same),
-    compared-map (compares k c) (reply b c) w (call std iter w d) (Together std (seenAfter k b c) (suc m) (after b c)) (λ v. EachSame std iter (seenAfter k b c) (after b c) v calls)
-        (λ v t. each-same (seenAfter k b c) (suc m) (after b c) v calls t (lent .1) (same .1) (omega (arith, few)))
-        (subst (Step std iter k m b w c) (sym (same .0 .1))
-        (step std iter k m b w j (same .0 .0) (omega (arith, few)) c (lent .0) (same .0 .2))),
+  each-same : (k : Seen) (m : ℕ) (y : Yard) (w : World) (calls : List (NamedCall × Asked)) → Together std k m y w → All Lent (firsts calls) → All (SameCall std) calls
+      → m + length calls < 2 ^ 64 → EachSame std iter k y w calls
+  each-same k m y w [] held lent same few = λ i e. held .caches i .near e .same
+  each-same k m y w ((n, d) ∷ calls) held lent same few = (
+    (λ i e. held .caches i .near e .same),
+    compared-map (compares (metBy k y n) (n .1)) (replyOn y n) w (call std iter w d) (Together std (seenAfter k y n) (suc m) (afterOn y n))
+        (λ v. EachSame std iter (seenAfter k y n) (afterOn y n) v calls)
+        (λ v t. each-same (seenAfter k y n) (suc m) (afterOn y n) v calls t (lent .1) (same .1) (omega (arith, few)))
+        (subst (λ a. Compared (compares (metBy k y n) (n .1)) (replyOn y n) w (call std iter w a) (Together std (seenAfter k y n) (suc m) (afterOn y n))) (sym (same .0 .1))
+        (step std iter k m y w held (same .0 .0) (omega (arith, few)) n (lent .0) (same .0 .2))),
   )
 
   -- ---- fresh on both sides
@@ -78,45 +88,56 @@ module _ (std : Std) (iter : Iter ℕ) where
   same-numbers s u e =
       ap (λ (l : List ℕ). record { nodes = getD l 0 0; targets = getD l 1 0; generation = record { 0 = getD l 2 0 }; next = record { 0 = getD l 3 0 } }) e
 
-  module _ (t : Table) (es : List TableEntry) (built : BuiltFrom t es) (area : List ℕ) (b : Cabinet) (o : Opened t area b) (w : World) (f : Fresh std es (t .generation .0) w)
-      (alike : (i : ℕ) → w .caches i .capacity ≡ b .caches i .cache .capacity) where
-    -- the table is stamped with its own generation
-    current : w .snapshot .current ≡ f .table
-    current = ap (λ (x : SublistSnapshot ℕ). x .current) (f .made)
+  -- a snapshot of ours is made of a table, one of theirs of a table of the same entries and generation
+  module _ (t : Table) (es : List TableEntry) (built : BuiltFrom t es) (area : List ℕ) (table : Sublist ℕ) (few : length es ≤ 2048)
+      (made : build std (builderOf es) (t .generation .0) ≡ Ok table) where
+    whole : original.stamp table (t .generation .0) ≡ table
+    whole = stamped-same std (builderOf es) (t .generation .0) table made
 
-    whole : original.stamp (f .table) (t .generation .0) ≡ f .table
-    whole = stamped-same std (builderOf es) (t .generation .0) (f .table) (f .built)
-
-    at-first : Together std (unseen (t .generation .0)) 0 (record { snapshot = first t; words = copied t area; caches = b .caches }) w
+    at-first : Both std es (record { snapshot = first t; words = copied t area }) (original.new table)
     at-first = record {
-      entries = es;
       accepted = built-accepts t es built;
       worst-case = built-bound t es built;
       holds = copied-holds t (rootOf fnv es) (table-holds t es built) area;
-      walks = subst (Walks std es) (whole ∙ sym current) (stamped-walks std es (f .table) (built-accepts t es built) (f .few, t .generation .0, f .built) (t .generation .0));
-      generation = ap (λ (x : Sublist ℕ). x .generation) (current ∙ sym whole);
-      next = rw (f .made);
-      stands = rw (eqb-whole (t .generation .0));
-      caches = λ i. subst (Sound false false (t .generation .0 ∷ []) (walkedBy es) (t .generation) 0 (b .caches i)) (sym (f .caches i .1))
-          (fresh-sound (t .generation .0 ∷ []) (walkedBy es) (t .generation) (b .caches i) (o .cachesMade i .0) (f .caches i .0) (o .cachesMade i .1)
-          (ap (λ (x : ResolveCache ℕ). x .capacity) (sym (f .caches i .1)) ∙ alike i));
+      walks = subst (Walks std es) whole (stamped-walks std es table (built-accepts t es built) (few, t .generation .0, made) (t .generation .0));
+      generation = ap (λ (x : Sublist ℕ). x .generation) (sym whole);
+      next = refl;
     }
 
-    start : Together std (unseen (t .generation .0)) 0 b w
-    start = go (ltb (length area) (lengthOf t)) refl
+    made-both : (s : SnapshotInArea) → make t area ≡ record { says = answer 0 (snapshotNumbers (s .snapshot)); area = s .words } → Both std es s (original.new table)
+    made-both s ours = go (ltb (length area) (lengthOf t)) refl
       where
-        go : (c : Bool) → ltb (length area) (lengthOf t) ≡ c → Together std (unseen (t .generation .0)) 0 b w
+        go : (c : Bool) → ltb (length area) (lengthOf t) ≡ c → Both std es s (original.new table)
         go true e =
             let m = make-full t (rootOf fnv es) (table-holds t es built) area (ltb-true (length area) (lengthOf t) e) in
-            let q : answer 20 [] ≡ answer 0 (snapshotNumbers (b .snapshot)) = ap (λ (x : Made). x .says) (sym m ∙ o .snapshotMade) in
+            let q : answer 20 [] ≡ answer 0 (snapshotNumbers (s .snapshot)) = ap (λ (x : Made). x .says) (sym m ∙ ours) in
             let z : _≡_ {A = ℕ} 0 1 = cc in absurd (omega arith)
         go false e =
-            let m = sym (make-fits t (rootOf fnv es) (table-holds t es built) area (ltb-false (length area) (lengthOf t) e)) ∙ o .snapshotMade in
-            let q : answer 0 (snapshotNumbers (first t)) ≡ answer 0 (snapshotNumbers (b .snapshot)) = ap (λ (x : Made). x .says) m in
-            let n : snapshotNumbers (first t) ≡ snapshotNumbers (b .snapshot) = cc in
-            subst (λ v. Together std (unseen (t .generation .0)) 0 (record { snapshot = b .snapshot; words = v; caches = b .caches }) w) (ap (λ (x : Made). x .area) m)
-            (subst (λ s. Together std (unseen (t .generation .0)) 0 (record { snapshot = s; words = copied t area; caches = b .caches }) w) (same-numbers (first t) (b .snapshot) n) at-first)
+            let m = sym (make-fits t (rootOf fnv es) (table-holds t es built) area (ltb-false (length area) (lengthOf t) e)) ∙ ours in
+            let q : answer 0 (snapshotNumbers (first t)) ≡ answer 0 (snapshotNumbers (s .snapshot)) = ap (λ (x : Made). x .says) m in
+            let n : snapshotNumbers (first t) ≡ snapshotNumbers (s .snapshot) = cc in
+            subst (λ v. Both std es (record { snapshot = s .snapshot; words = v }) (original.new table)) (ap (λ (x : Made). x .area) m)
+            (subst (λ u. Both std es (record { snapshot = u; words = copied t area }) (original.new table)) (same-numbers (first t) (s .snapshot) n) at-first)
+
+  module _ (ts : ℕ → Table) (es : ℕ → List TableEntry) (built : (j : ℕ) → BuiltFrom (ts j) (es j)) (areas : ℕ → List ℕ) (y : Yard)
+      (opened : (j : ℕ) → Opened (ts j) (areas j) (cabinetOf y j)) (w : World) (fresh : Fresh std es (λ j. ts j .generation .0) w)
+      (alike : (i : ℕ) → w .caches i .capacity ≡ y .caches i .cache .capacity) where
+    start : Together std unseen 0 y w
+    start = record {
+      entries = es;
+      snapshots = λ j. subst (Both std (es j) (y .snapshots j)) (sym (fresh .made j))
+          (made-both (ts j) (es j) (built j) (areas j) (fresh .tables j) (fresh .few j) (fresh .built j) (y .snapshots j) (opened j .snapshotMade));
+      among-stood = λ j n. absurd (none n);
+      apart = λ q i j n. absurd (none n);
+      caches = λ i. subst (Sound false false [] 0 (y .caches i)) (sym (fresh .caches i .1))
+          (fresh-sound [] (y .caches i) (opened 0 .cachesMade i .0) (fresh .caches i .0) (opened 0 .cachesMade i .1)
+          (ap (λ (x : ResolveCache ℕ). x .capacity) (sym (fresh .caches i .1)) ∙ alike i));
+      right = λ q j n. absurd (none n);
+    }
+      where
+        none : false ≡ true → ⊥
+        none e = let z : _≡_ {A = ℕ} 0 1 = cc in omega arith
 
     -- whatever the list of calls
-    pub calls-same : (calls : List (Call × Asked)) → All Lent (firsts calls) → All (SameCall std) calls → length calls < 2 ^ 64 → EachSame std iter (unseen (t .generation .0)) b w calls
-    calls-same calls lent same few = each-same (unseen (t .generation .0)) 0 b w calls start lent same (omega (arith, few))
+    pub calls-same : (calls : List (NamedCall × Asked)) → All Lent (firsts calls) → All (SameCall std) calls → length calls < 2 ^ 64 → EachSame std iter unseen y w calls
+    calls-same calls lent same few = each-same unseen 0 y w calls start lent same (omega (arith, few))

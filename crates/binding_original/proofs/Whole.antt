@@ -1,20 +1,20 @@
--- The theorem with nothing left open: for every list of calls of ours the original has the same calls, on a snapshot and caches that it makes of the same entries and capacities.
+-- The theorem with nothing left open: for every list of calls of ours the original has the same calls, on snapshots and caches that it makes of the same entries and capacities.
 --
---   original-same    tables from accepted builds, opened, fewer than 2^64 calls → the same calls of the original, its fresh snapshot and caches, EachSame
---   pairs-same       any such calls of the original, on any such snapshot and caches → EachSame
+--   original-same    tables from accepted builds, opened, fewer than 2^64 calls → the same calls of the original, its fresh snapshots and caches, EachSame
+--   pairs-same       any such calls of the original, on any such snapshots and caches → EachSame
 --   empty-same       `empty` is the snapshot of no entries
 use Prim.Native.Nat.{ℕ, _/_, _≤_, _<_, _^_, max}
 use native.Mathlib.Omega.{arith}
-use mathlib.Core.Path.{_≡_, refl, sym, _∙_, ap, subst}
+use mathlib.Core.Path.{_≡_, refl, _∙_, ap, subst}
 use mathlib.Core.Bool.{Bool, true, false}
-use mathlib.Core.List.{List, [], _∷_}
+use mathlib.Core.List.{List, [], _∷_, map}
 use lib.ListN.{length, getD, length-map}
 use Rattle.subject.specs.Choice.{pick}
 use Rattle.subject.specs.Fnv.{fnv}
 use Rattle.subject.specs.Answers.{answer}
 use Rattle.sublist_tree.specs.Lists.{All}
 use Rattle.sublist_tree.specs.Table.{TableEntry, entryLine}
-use Rattle.sublist.specs.Entries.{readFrom}
+use Rattle.sublist_entries.specs.Entries.{readFrom}
 use Rattle.sublist.proofs.Composed.{lines-length}
 use Rattle.sublist.proofs.Builds.{taken}
 use Rattle.sublist_original.specs.Original.{Ok, Std, Sublist, build}
@@ -25,12 +25,12 @@ use Rattle.sublist_snapshot.specs.Snapshot.{Table, emptyTable}
 use Rattle.resolve_cache.specs.declared.ResolveCache as ours
 use Rattle.resolve_cache.specs.Area.{Area}
 use Rattle.resolve_cache.specs.Cache.{short, fresh, cacheNumbers, withCapacity}
-use Rattle.binding.specs.Calls.{Call, store, clearing, asking, resolving, askingHome, resolvingHome, Cabinet}
+use Rattle.binding.specs.Calls.{Call, store, clearing, asking, resolving, askingHome, resolvingHome}
 use Rattle.binding.specs.Demand.{Opened, Lent}
 use Rattle.binding.specs.Built.{BuiltFrom}
 use Rattle.binding.proofs.Builds.{built-accepts, built-bound, empty-built}
 use Rattle.binding_original.specs.Original.{Iter, new, empty, with-capacity}
-use Rattle.binding_original.specs.Calls.{World, Asked, asked, Tabled, SameCall, Fresh}
+use Rattle.binding_original.specs.Calls.{Yard, cabinetOf, NamedCall, World, Asked, asked, Tabled, SameCall, Fresh}
 use Rattle.binding_original.specs.Caches.{unseen, EachSame}
 use Rattle.binding_original.proofs.SameCalls.{firsts, calls-same}
 
@@ -60,12 +60,13 @@ module _ (std : Std) where
   partner any (askingHome subject out) lent = (any, tt)
   partner any (resolvingHome i subject out) lent = (any, tt)
 
-  partners : Sublist ℕ → (calls : List Call) → All Lent calls → (xs : List (Call × Asked)) × (firsts xs ≡ calls) × All (SameCall std) xs
-  partners any [] lent = ([], refl, tt)
-  partners any (c ∷ calls) lent =
-      let one = partner any c (lent .0) in
+  partners : Sublist ℕ → (calls : List NamedCall) → All Lent (map (λ n. n .1) calls)
+      → (xs : List (NamedCall × Asked)) × (map (λ x. x .0) xs ≡ calls) × All (SameCall std) xs × All Lent (firsts xs)
+  partners any [] lent = ([], refl, tt, tt)
+  partners any (n ∷ calls) lent =
+      let one = partner any (n .1) (lent .0) in
       let rest = partners any calls (lent .1) in
-      ((c, asked (one .0) c) ∷ rest .0, ap (λ cs. c ∷ cs) (rest .1), ((one .0, refl, one .1), rest .2))
+      ((n, asked (one .0) n) ∷ rest .0, ap (λ ns. n ∷ ns) (rest .1), ((one .0, refl, one .1), rest .2), (lent .0, rest .3))
 
 -- a fresh cache has the capacity that it was made with, 0 turned into 1
 fresh-capacity : (n : ℕ) (c : ours.ResolveCache) (a : Area) → withCapacity n a ≡ answer 0 (cacheNumbers c) → max 1 n ≡ c .capacity
@@ -80,50 +81,56 @@ fresh-capacity n c a e = go (short (max 1 n) a) e
 
 -- ---- the theorems
 
-pub pairs-same : (std : Std) (iter : Iter ℕ) (t : Table) (es : List TableEntry) (calls : List (Call × Asked)) → BuiltFrom t es → All Lent (firsts calls) → All (SameCall std) calls
-    → length calls < 2 ^ 64 → (area : List ℕ) (b : Cabinet) → Opened t area b → (w : World) → Fresh std es (t .generation .0) w
-    → ((i : ℕ) → w .caches i .capacity ≡ b .caches i .cache .capacity) → EachSame std iter (unseen (t .generation .0)) b w calls
-pairs-same std iter t es calls built lent same few area b o w f alike = calls-same std iter t es built area b o w f alike calls lent same few
+pub pairs-same : (std : Std) (iter : Iter ℕ) (ts : ℕ → Table) (es : ℕ → List TableEntry) (calls : List (NamedCall × Asked))
+    → ((j : ℕ) → BuiltFrom (ts j) (es j)) → All Lent (firsts calls) → All (SameCall std) calls → length calls < 2 ^ 64
+    → (areas : ℕ → List ℕ) (y : Yard) → ((j : ℕ) → Opened (ts j) (areas j) (cabinetOf y j)) → (w : World) → Fresh std es (λ j. ts j .generation .0) w
+    → ((i : ℕ) → w .caches i .capacity ≡ y .caches i .cache .capacity) → EachSame std iter unseen y w calls
+pairs-same std iter ts es calls built lent same few areas y opened w fresh alike = calls-same std iter ts es built areas y opened w fresh alike calls lent same few
 
--- the original beside a list of calls of ours: its calls, and its snapshot and caches
-pub record Original (std : Std) (iter : Iter ℕ) (t : Table) (es : List TableEntry) (b : Cabinet) (calls : List Call) : Type 0 where
-  pub both-calls : List (Call × Asked)
-  pub of-ours : firsts both-calls ≡ calls
+-- the original beside a list of calls of ours: its calls, and its snapshots and caches
+pub record Original (std : Std) (iter : Iter ℕ) (ts : ℕ → Table) (es : ℕ → List TableEntry) (y : Yard) (calls : List NamedCall) : Type 0 where
+  pub both-calls : List (NamedCall × Asked)
+  pub of-ours : map (λ x. x .0) both-calls ≡ calls
   pub same-calls : All (SameCall std) both-calls
   pub world : World
-  pub begins : Fresh std es (t .generation .0) world
-  pub capacities : (i : ℕ) → world .caches i .capacity ≡ b .caches i .cache .capacity
-  pub answers : EachSame std iter (unseen (t .generation .0)) b world both-calls
+  pub begins : Fresh std es (λ j. ts j .generation .0) world
+  pub capacities : (i : ℕ) → world .caches i .capacity ≡ y .caches i .cache .capacity
+  pub answers : EachSame std iter unseen y world both-calls
 
-pub original-same : (std : Std) (iter : Iter ℕ) (t : Table) (es : List TableEntry) (calls : List Call) → BuiltFrom t es → All Lent calls → length calls < 2 ^ 64
-    → (area : List ℕ) (b : Cabinet) → Opened t area b → Original std iter t es b calls
-original-same std iter t es calls built lent few area b o = record {
+pub original-same : (std : Std) (iter : Iter ℕ) (ts : ℕ → Table) (es : ℕ → List TableEntry) (calls : List NamedCall)
+    → ((j : ℕ) → BuiltFrom (ts j) (es j)) → All Lent (map (λ n. n .1) calls) → length calls < 2 ^ 64
+    → (areas : ℕ → List ℕ) (y : Yard) → ((j : ℕ) → Opened (ts j) (areas j) (cabinetOf y j)) → Original std iter ts es y calls
+original-same std iter ts es calls built lent few areas y opened = record {
   both-calls = xs;
   of-ours = ps .1;
   same-calls = ps .2;
   world = w;
-  begins = f;
+  begins = begins;
   capacities = alike;
-  answers = pairs-same std iter t es xs built (subst (All Lent) (sym (ps .1)) lent) (ps .2) (omega (arith, few, length-map xs (λ x. x .0), ap length (ps .1))) area b o w f alike;
+  answers = pairs-same std iter ts es xs built (ps .3) (ps .2) (omega (arith, few, length-map xs (λ x. x .0), ap length (ps .1))) areas y opened w begins alike;
 }
   where
-    made : (table : Sublist ℕ) × (build std (builderOf es) (t .generation .0) ≡ Ok table)
-    made = their-table std t es built (t .generation .0)
+    made : (j : ℕ) → (table : Sublist ℕ) × (build std (builderOf (es j)) (ts j .generation .0) ≡ Ok table)
+    made j = their-table std (ts j) (es j) (built j) (ts j .generation .0)
 
-    ps : (xs : List (Call × Asked)) × (firsts xs ≡ calls) × All (SameCall std) xs
-    ps = partners std (made .0) calls lent
+    ps : (xs : List (NamedCall × Asked)) × (map (λ x. x .0) xs ≡ calls) × All (SameCall std) xs × All Lent (firsts xs)
+    ps = partners std (made 0 .0) calls lent
 
-    xs : List (Call × Asked)
+    xs : List (NamedCall × Asked)
     xs = ps .0
 
+    -- the number that each cache of ours was made with
+    number : ℕ → ℕ
+    number i = opened 0 .cachesMade i .0
+
     w : World
-    w = record { snapshot = new (made .0); caches = λ i. with-capacity (o .cachesMade i .0) }
+    w = record { snapshots = λ j. new (made j .0); caches = λ i. with-capacity (number i) }
 
-    f : Fresh std es (t .generation .0) w
-    f = record { table = made .0; few = built-few t es built; built = made .1; made = refl; caches = λ i. (o .cachesMade i .0, refl) }
+    begins : Fresh std es (λ j. ts j .generation .0) w
+    begins = record { tables = λ j. made j .0; few = λ j. built-few (ts j) (es j) (built j); built = λ j. made j .1; made = λ j. refl; caches = λ i. (number i, refl) }
 
-    alike : (i : ℕ) → w .caches i .capacity ≡ b .caches i .cache .capacity
-    alike i = let e : max (o .cachesMade i .0) 1 ≡ max 1 (o .cachesMade i .0) = omega arith in e ∙ fresh-capacity (o .cachesMade i .0) (b .caches i .cache) (b .caches i .area) (o .cachesMade i .1)
+    alike : (i : ℕ) → w .caches i .capacity ≡ y .caches i .cache .capacity
+    alike i = let e : max (number i) 1 ≡ max 1 (number i) = omega arith in e ∙ fresh-capacity (number i) (y .caches i .cache) (y .caches i .area) (opened 0 .cachesMade i .1)
 
 -- the other name of the first call
 pub empty-same : (std : Std) → (table : Sublist ℕ) × (build std (builderOf []) 0 ≡ Ok table) × (empty std ≡ Ok (new table))

@@ -3,17 +3,17 @@ use Prim.Native.Nat.{ℕ, _<_}
 use mathlib.Core.Path.{_≡_}
 use mathlib.Core.Bool.{Bool, true, false, not}
 use mathlib.Core.List.{List, [], _∷_, List·Memᴰ}
-use lib.Dec.{eqb}
-use Rattle.subject.specs.Choice.{and, or}
+use lib.Dec.{eqb, ltb}
+use lib.ListN.{length}
+use Rattle.subject.specs.Choice.{pick, and, or}
 use Rattle.sublist_walk.specs.Walk.{among}
 use Rattle.subject.specs.Original.{Str}
 use Rattle.sublist_original.specs.Original.{Std}
 use Rattle.resolve_cache.specs.Area.{Area, stampAt, keyAt, targetsAt}
-use Rattle.resolve_cache.specs.Cache.{qualifies}
 use Rattle.binding.specs.Calls as ours
-use Rattle.binding.specs.Calls.{Call, store, clearing, asking, resolving, askingHome, resolvingHome, Cabinet, reply, after}
+use Rattle.binding.specs.Calls.{Call, store, clearing, asking, resolving, askingHome, resolvingHome, reply}
 use Rattle.binding_original.specs.Original.{CacheEntry, Iter, ResolveCache, len, walk-count}
-use Rattle.binding_original.specs.Calls.{World, Asked, call, Compared}
+use Rattle.binding_original.specs.Calls.{Yard, cabinetOf, NamedCall, replyOn, afterOn, World, Asked, call, Compared}
 
 -- what slot i of ours keeps: the subject, and its list and stamp
 abbrev pub row : Area → ℕ → Str × CacheEntry ℕ
@@ -29,15 +29,34 @@ pub record SameKept (k : ours.Kept) (o : ResolveCache ℕ) : Type 0 where
   pub kept : (i : ℕ) → i < k .cache .used → List·Memᴰ (row (k .area) i) (o .entries)
   pub only : (x : Str × CacheEntry ℕ) → List·Memᴰ x (o .entries) → (i : ℕ) × (i < k .cache .used) × (x ≡ row (k .area) i)
 
--- what is known so far: which caches had a resolve of a subject over 256 bytes or with a list over 16 targets, the generations of the tables that stood, and whether two of them had one
+-- what is known so far: which caches had a resolve of a subject over 256 bytes or with a list over 16 targets, which snapshots calls were made on, the generations of the tables that stood
+-- there, and whether two of them had one
 pub record Seen : Type 0 where
   pub spoiled : ℕ → Bool
+  pub named : List ℕ
   pub stood : List ℕ
   pub mixed : Bool
 
--- before any call: the first table's generation
-abbrev pub unseen : ℕ → Seen
-unseen g = record { spoiled = λ i. false; stood = g ∷ []; mixed = false }
+-- before any call
+abbrev pub unseen : Seen
+unseen = record { spoiled = λ i. false; named = []; stood = []; mixed = false }
+
+-- a table of generation g stood in snapshot j
+abbrev pub standing : Seen → ℕ → ℕ → Seen
+standing k j g = record { spoiled = k .spoiled; named = j ∷ k .named; stood = g ∷ k .stood; mixed = or (k .mixed) (among g (k .stood)) }
+
+-- the first call on snapshot j meets its first table, of generation g
+abbrev pub meeting : Seen → ℕ → ℕ → Seen
+meeting k j g = pick (among j (k .named)) k (standing k j g)
+
+-- a call on a snapshot meets its table; a clear works on a cache alone
+abbrev pub metBy : Seen → Yard → NamedCall → Seen
+metBy k y (j, store t es) = meeting k j (y .snapshots j .snapshot .generation .0)
+metBy k y (j, clearing i) = k
+metBy k y (j, asking subject out) = meeting k j (y .snapshots j .snapshot .generation .0)
+metBy k y (j, resolving i subject out) = meeting k j (y .snapshots j .snapshot .generation .0)
+metBy k y (j, askingHome subject out) = meeting k j (y .snapshots j .snapshot .generation .0)
+metBy k y (j, resolvingHome i subject out) = meeting k j (y .snapshots j .snapshot .generation .0)
 
 -- the two that feed `single_home` count as a match and a resolve
 abbrev pub counted : Call → Call
@@ -48,9 +67,13 @@ counted (resolving i subject out) = resolving i subject out
 counted (askingHome subject out) = asking subject out
 counted (resolvingHome i subject out) = resolving i subject out
 
--- a resolve of a subject over 256 bytes or with a list over 16 targets, on cache j
+-- "a subject over 256 bytes or a list over 16 targets"
+abbrev pub uncacheable : List ℕ → List ℕ → Bool
+uncacheable subject list = or (ltb 256 (length subject)) (ltb 16 (length list))
+
+-- a resolve of such a subject or with such a list, on cache j
 abbrev pub spoils : Call → ours.Reply → ℕ → Bool
-spoils (resolving i subject out) (ours.resolved list verdict) j = and (eqb i j) (not (qualifies subject list))
+spoils (resolving i subject out) (ours.resolved list verdict) j = and (eqb i j) (uncacheable subject list)
 spoils (resolving i subject out) (ours.refused a) j = false
 spoils (resolving i subject out) (ours.storing g) j = false
 spoils (resolving i subject out) ours.cleared j = false
@@ -62,19 +85,19 @@ spoils (asking subject out) r j = false
 spoils (askingHome subject out) r j = false
 spoils (resolvingHome i subject out) r j = false
 
--- the generation that a call stamped a table with
-abbrev pub stamps : Seen → ours.Reply → Seen
-stamps k (ours.storing g) = record { spoiled = k .spoiled; stood = g ∷ k .stood; mixed = or (k .mixed) (among g (k .stood)) }
-stamps k (ours.refused a) = k
-stamps k ours.cleared = k
-stamps k (ours.matched list verdict peak g) = k
-stamps k (ours.resolved list verdict) = k
-stamps k (ours.home verdict values) = k
+-- the generation that a call stamped a table with, which then stands in snapshot j
+abbrev pub stamps : Seen → ℕ → ours.Reply → Seen
+stamps k j (ours.storing g) = standing k j g
+stamps k j (ours.refused a) = k
+stamps k j ours.cleared = k
+stamps k j (ours.matched list verdict peak g) = k
+stamps k j (ours.resolved list verdict) = k
+stamps k j (ours.home verdict values) = k
 
-abbrev pub seenAfter : Seen → Cabinet → Call → Seen
-seenAfter k b c =
-    let t = stamps k (reply b c) in
-    record { spoiled = λ j. or (t .spoiled j) (spoils (counted c) (reply b (counted c)) j); stood = t .stood; mixed = t .mixed }
+abbrev pub seenAfter : Seen → Yard → NamedCall → Seen
+seenAfter k y (j, c) =
+    let t = stamps (metBy k y (j, c)) j (replyOn y (j, c)) in
+    record { spoiled = λ i. or (t .spoiled i) (spoils (counted c) (replyOn y (j, counted c)) i); named = t .named; stood = t .stood; mixed = t .mixed }
 
 -- "from a cache's first such resolve on, only lists and verdicts are compared with `resolve_with`, and only while no two tables that stood had one generation"
 abbrev pub compares : Seen → Call → Bool
@@ -86,12 +109,13 @@ compares k (askingHome subject out) = true
 compares k (resolvingHome i subject out) = not (and (k .spoiled i) (k .mixed))
 
 -- the caches without such a resolve are the same
-abbrev pub CachesSame : Seen → Cabinet → World → Type 0
-CachesSame k b w = (i : ℕ) → k .spoiled i ≡ false → SameKept (b .caches i) (w .caches i)
+abbrev pub CachesSame : Seen → Yard → World → Type 0
+CachesSame k y w = (i : ℕ) → k .spoiled i ≡ false → SameKept (y .caches i) (w .caches i)
 
 -- the caches before every call and behind the last, and every answer
 module _ (std : Std) (iter : Iter ℕ) where
-  abbrev pub EachSame : Seen → Cabinet → World → List (Call × Asked) → Type 0
-  EachSame k b w [] = CachesSame k b w
-  EachSame k b w ((c, d) ∷ rest) =
-      CachesSame k b w × Compared (compares k c) (reply b c) w (call std iter w d) (λ v. EachSame (seenAfter k b c) (after b c) v rest)
+  abbrev pub EachSame : Seen → Yard → World → List (NamedCall × Asked) → Type 0
+  EachSame k y w [] = CachesSame k y w
+  EachSame k y w ((n, d) ∷ rest) =
+      CachesSame k y w
+      × Compared (compares (metBy k y n) (n .1)) (replyOn y n) w (call std iter w d) (λ v. EachSame (seenAfter k y n) (afterOn y n) v rest)

@@ -1,4 +1,4 @@
--- Calls on the original's snapshot and caches beside calls on ours, and when their answers are the same.
+-- Calls on any snapshots and any caches of the original's beside calls on ours, and when their answers are the same. Each call names its snapshot and its cache by number: any pair of them may meet in a resolve.
 use Prim.Native.Nat.{ℕ, _≤_}
 use mathlib.Core.Path.{_≡_}
 use mathlib.Core.Bool.{Bool, true, false}
@@ -15,26 +15,62 @@ use Rattle.sublist_original.specs.Entries.{builderOf}
 use Rattle.binding.specs.declared.Resolution as verdict
 use Rattle.binding.specs.declared.Resolution.the-variants as variants
 use Rattle.binding.specs.Calls as ours
-use Rattle.binding.specs.Calls.{Call, store, clearing, asking, resolving, askingHome, resolvingHome, Cabinet, reply, after}
+use Rattle.sublist_snapshot.specs.declared.Snapshot.{Snapshot}
+use Rattle.binding.specs.Calls.{Call, store, clearing, asking, resolving, askingHome, resolvingHome, Kept, Cabinet, reply, after}
 use Rattle.binding_original.specs.Original as original
 use Rattle.binding_original.specs.Original.{SublistSnapshot, Iter, ResolveCache, Resolution, Routed, NoStream, Ambiguous, single-home, resolve, snapshot-match-into, resolve-single-home, resolve-single-home-cached}
 
--- a snapshot, and a cache for each number
+-- ---- ours
+
+-- a snapshot with its area
+pub record SnapshotInArea : Type 0 where
+  pub snapshot : Snapshot
+  pub words : List ℕ
+
+-- a snapshot and a cache for each number
+pub record Yard : Type 0 where
+  pub snapshots : ℕ → SnapshotInArea
+  pub caches : ℕ → Kept
+
+-- snapshot j and the caches, as demand 3's calls take them
+abbrev pub cabinetOf : Yard → ℕ → Cabinet
+cabinetOf y j = record { snapshot = y .snapshots j .snapshot; words = y .snapshots j .words; caches = y .caches }
+
+-- what a call on them left
+abbrev pub with-cabinet : Yard → ℕ → Cabinet → Yard
+with-cabinet y j b = record { snapshots = λ i. pick (eqb j i) (record { snapshot = b .snapshot; words = b .words }) (y .snapshots i); caches = b .caches }
+
+-- a call, and the number of the snapshot that it is made on; a clear works on its cache alone
+abbrev pub NamedCall : Type 0
+NamedCall = ℕ × Call
+
+abbrev pub replyOn : Yard → NamedCall → ours.Reply
+replyOn y (j, c) = reply (cabinetOf y j) c
+
+abbrev pub afterOn : Yard → NamedCall → Yard
+afterOn y (j, c) = with-cabinet y j (after (cabinetOf y j) c)
+
+-- ---- theirs
+
+-- a snapshot and a cache for each number
 pub record World : Type 0 where
-  pub snapshot : SublistSnapshot ℕ
+  pub snapshots : ℕ → SublistSnapshot ℕ
   pub caches : ℕ → ResolveCache ℕ
 
-abbrev pub with-cache : World → ℕ → ResolveCache ℕ → World
-with-cache w i cache = record { snapshot = w .snapshot; caches = λ j. pick (eqb i j) cache (w .caches j) }
+abbrev pub with-snapshot : World → ℕ → SublistSnapshot ℕ → World
+with-snapshot w j snapshot = record { snapshots = λ i. pick (eqb j i) snapshot (w .snapshots i); caches = w .caches }
 
--- the calls of 01; a subject is given by its text
+abbrev pub with-cache : World → ℕ → ResolveCache ℕ → World
+with-cache w i cache = record { snapshots = w .snapshots; caches = λ j. pick (eqb i j) cache (w .caches j) }
+
+-- the calls of 01: the number of a cache, then that of a snapshot; a subject is given by its text
 pub data Asked : Type 0 where
-  stores : Sublist ℕ → Asked
+  stores : ℕ → Sublist ℕ → Asked
   clears : ℕ → Asked
-  matches : Str → Asked
-  resolves : ℕ → Str → Asked
-  homes : Str → Asked
-  homesCached : ℕ → Str → Asked
+  matches : ℕ → Str → Asked
+  resolves : ℕ → ℕ → Str → Asked
+  homes : ℕ → Str → Asked
+  homesCached : ℕ → ℕ → Str → Asked
 
 -- what they answer: the generation of a store; the list and generation of a match; the list of a resolve; the verdict of the two that feed `single_home`
 pub data Told : Type 0 where
@@ -52,19 +88,21 @@ parsed (subject.Err e) w behind = Ok (refused e, w)
 
 -- what a call answers, and what is there then
 abbrev pub call : Std → Iter ℕ → World → Asked → Outcome (Told × World)
-call std iter w (stores table) = Ok (storing (original.store (w .snapshot) table .0), record { snapshot = original.store (w .snapshot) table .1; caches = w .caches })
+call std iter w (stores j table) =
+    let given = original.store (w .snapshots j) table in
+    Ok (storing (given .0), with-snapshot w j (given .1))
 call std iter w (clears i) = Ok (cleared, with-cache w i (original.clear (w .caches i)))
-call std iter w (matches text) = parsed (validate text false) w do
-  found ← snapshot-match-into std (w .snapshot) text []
+call std iter w (matches j text) = parsed (validate text false) w do
+  found ← snapshot-match-into std (w .snapshots j) text []
   Ok (matched (found .1) (found .0), w)
-call std iter w (resolves i text) = parsed (validate text false) w do
-  given ← resolve std iter (w .caches i) (w .snapshot) text
+call std iter w (resolves i j text) = parsed (validate text false) w do
+  given ← resolve std iter (w .caches i) (w .snapshots j) text
   Ok (resolved (given .0), with-cache w i (given .1))
-call std iter w (homes text) = parsed (validate text false) w do
-  verdict ← resolve-single-home std (w .snapshot) text
+call std iter w (homes j text) = parsed (validate text false) w do
+  verdict ← resolve-single-home std (w .snapshots j) text
   Ok (home verdict, w)
-call std iter w (homesCached i text) = parsed (validate text false) w do
-  given ← resolve-single-home-cached std iter (w .caches i) (w .snapshot) text
+call std iter w (homesCached i j text) = parsed (validate text false) w do
+  given ← resolve-single-home-cached std iter (w .caches i) (w .snapshots j) text
   Ok (home (given .0), with-cache w i (given .1))
 
 -- ---- what is compared
@@ -118,13 +156,13 @@ abbrev pub TableOf : Std → List TableEntry → Sublist ℕ → Type 0
 TableOf std es table = (length es ≤ 2048) × (generation : ℕ) × (build std (builderOf es) generation ≡ Ok table)
 
 -- the original's call for ours; a store stores `table`
-abbrev pub asked : Sublist ℕ → Call → Asked
-asked table (store t es) = stores table
-asked table (clearing i) = clears i
-asked table (asking subject out) = matches subject
-asked table (resolving i subject out) = resolves i subject
-asked table (askingHome subject out) = homes subject
-asked table (resolvingHome i subject out) = homesCached i subject
+abbrev pub asked : Sublist ℕ → NamedCall → Asked
+asked table (j, store t es) = stores j table
+asked table (j, clearing i) = clears i
+asked table (j, asking subject out) = matches j subject
+asked table (j, resolving i subject out) = resolves i j subject
+asked table (j, askingHome subject out) = homes j subject
+asked table (j, resolvingHome i subject out) = homesCached i j subject
 
 -- which has the same entries
 abbrev pub Tabled : Std → Sublist ℕ → Call → Type 0
@@ -136,13 +174,13 @@ Tabled std table (askingHome subject out) = Unit {0}
 Tabled std table (resolvingHome i subject out) = Unit {0}
 
 -- the two are the same call
-abbrev pub SameCall : Std → Call × Asked → Type 0
-SameCall std (c, d) = (table : Sublist ℕ) × (d ≡ asked table c) × Tabled std table c
+abbrev pub SameCall : Std → NamedCall × Asked → Type 0
+SameCall std (n, d) = (table : Sublist ℕ) × (d ≡ asked table n) × Tabled std table (n .1)
 
--- a fresh snapshot of a table with these entries, built with this generation, and fresh caches
-pub record Fresh (std : Std) (es : List TableEntry) (generation : ℕ) (w : World) : Type 0 where
-  pub table : Sublist ℕ
-  pub few : length es ≤ 2048
-  pub built : build std (builderOf es) generation ≡ Ok table
-  pub made : w .snapshot ≡ original.new table
+-- fresh snapshots, each of a table with its entries, built with its generation; and fresh caches
+pub record Fresh (std : Std) (es : ℕ → List TableEntry) (generations : ℕ → ℕ) (w : World) : Type 0 where
+  pub tables : ℕ → Sublist ℕ
+  pub few : (j : ℕ) → length (es j) ≤ 2048
+  pub built : (j : ℕ) → build std (builderOf (es j)) (generations j) ≡ Ok (tables j)
+  pub made : (j : ℕ) → w .snapshots j ≡ original.new (tables j)
   pub caches : (i : ℕ) → (n : ℕ) × (w .caches i ≡ original.with-capacity n)

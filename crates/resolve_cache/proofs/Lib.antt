@@ -2,6 +2,8 @@ pub mod Decisions
 pub mod Faithful
 pub mod Handing
 pub mod Keeping
+pub mod Limits
+pub mod Outputs
 pub mod Put
 pub mod Rows
 pub mod Scans

@@ -57,9 +57,13 @@ fresh capacity = record { capacity = capacity; used = 0; generation = record { 0
 abbrev pub cacheNumbers : ResolveCache → List ℕ
 cacheNumbers c = c .capacity ∷ c .used ∷ c .generation .0 ∷ c .tick .0 ∷ c .walks ∷ []
 
--- `with_capacity`: 0 with the new state, or 17. It turns 0 into 1, and writes nothing; `new` is that of 1,024
+-- `with_capacity`: 0 with the new state, or 17. It turns 0 into 1, and writes nothing
 unfoldable pub withCapacity : ℕ → Area → Answer
 withCapacity n a = pick (short (max 1 n) a) (answer 17 []) (answer 0 (cacheNumbers (fresh (max 1 n))))
+
+-- `new`: of DEFAULT_CAPACITY
+abbrev pub newCache : Area → Answer
+newCache a = withCapacity 1024 a
 
 -- emptied, on a generation
 abbrev pub emptied : Generation → ResolveCache → ResolveCache

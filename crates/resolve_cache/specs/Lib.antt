@@ -2,4 +2,7 @@
 pub mod Area
 pub mod Cache
 pub mod Answers
+-- Only private contracts cite this one.
 pub mod Deciding
+-- Rows of ours.
+pub mod Rows

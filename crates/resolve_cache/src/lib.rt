@@ -11,7 +11,7 @@ ghost use Rattle.subject.specs.Answers.{answer, parsed, whenAccepted};
 ghost use Rattle.sublist_walk.specs.Walk.{part};
 ghost use Rattle.sublist_snapshot.specs.Snapshot.{wrap};
 ghost use Rattle.resolve_cache.specs.Area.{put, keyLength, targetCount, keyAt, keep};
-ghost use Rattle.resolve_cache.specs.Cache.{short, badFrom, bad, findFrom, oldestFrom, place, withCapacity, clear, adopt, ticked, hit, walked, grown, handed, resolve};
+ghost use Rattle.resolve_cache.specs.Cache.{short, badFrom, bad, findFrom, oldestFrom, place, withCapacity, newCache, clear, adopt, ticked, hit, walked, grown, handed, resolve};
 ghost use Rattle.resolve_cache.specs.Answers.{cacheAnswer, resolveAnswer, lent, left, listOf};
 ghost use Rattle.resolve_cache.specs.Deciding.{Roomy, Ready, Small, Passes, slotOf, seen, Keeps, walking, Decides};
 use subject::Parsed;
@@ -98,7 +98,7 @@ impl ResolveCache {
 
     // A fresh cache of 1,024 slots.
     pub fn new(heads: &[u64], keys: &[u8], kept: &[u32]) -> MadeCache
-        ensures { λ r. ⌜ cacheAnswer r ≡ withCapacity 1024 (lent (now (heads .entry)) (now (keys .entry)) (now (kept .entry))) ⌝ }
+        ensures { λ r. ⌜ cacheAnswer r ≡ newCache (lent (now (heads .entry)) (now (keys .entry)) (now (kept .entry))) ⌝ }
     {
         ResolveCache::with_capacity(ResolveCache::DEFAULT_CAPACITY, heads, keys, kept)
     }

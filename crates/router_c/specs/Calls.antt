@@ -3,7 +3,7 @@ use Prim.Native.Nat.{ℕ, zero, suc}
 use mathlib.Core.Bool.{Bool, true, false}
 use mathlib.Core.List.{List, [], _∷_, _++_}
 use Rattle.subject.specs.Answers.{Answer, answer}
-use Rattle.sublist.specs.declared.ListState.{ListState}
+use Rattle.sublist_entries.specs.declared.ListState.{ListState}
 use Rattle.sublist_walk.specs.Matching.{Outcome, outcome}
 use Rattle.sublist_snapshot.specs.declared.Snapshot.{Snapshot}
 use Rattle.sublist_snapshot.specs.Snapshot.{Table}

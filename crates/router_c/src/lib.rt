@@ -12,9 +12,9 @@ use subject::Matched;
 use subject::Parsed;
 use subject::SubjectError;
 use sublist::Built;
-use sublist::Inserted;
-use sublist::ListState;
 use sublist::SublistError;
+use sublist_entries::Inserted;
+use sublist_entries::ListState;
 use sublist_snapshot::Generation;
 use sublist_snapshot::MadeSnapshot;
 use sublist_snapshot::Snapshot;
@@ -34,12 +34,14 @@ ghost use Rattle.subject.specs.Answers.{refusal, parsed, matched};
 ghost use Rattle.subject.specs.Grammar.{grammar};
 ghost use Rattle.subject.specs.Matching.{matching};
 ghost use Rattle.subject.specs.Fnv.{fnv};
-ghost use Rattle.sublist.specs.Answers.{insertAnswer, held, buildRefusal, buildAnswer};
-ghost use Rattle.sublist.specs.Inserting.{insertSays, storeAfter};
+ghost use Rattle.sublist_entries.specs.Answers.{insertAnswer};
+ghost use Rattle.sublist.specs.Building.{held};
+ghost use Rattle.sublist.specs.Answers.{buildRefusal, buildAnswer};
+ghost use Rattle.sublist_entries.specs.Inserting.{insertSays, storeAfter};
 ghost use Rattle.sublist.specs.Building.{buildSays};
 ghost use Rattle.sublist.specs.Passes.{filling};
 ghost use Rattle.sublist.specs.Leaving.{buildLeaves};
-ghost use Rattle.sublist.specs.Numbers.{entriesIn, numbersAfter};
+ghost use Rattle.sublist_entries.specs.Numbers.{entriesIn, numbersAfter};
 ghost use Rattle.sublist_walk.specs.Matching.{outcome, matchAnswer, matchTable};
 ghost use Rattle.sublist_snapshot.specs.Snapshot.{make, makeEmpty, storeIn, matchIn, snapshotNumbers};
 ghost use Rattle.sublist_snapshot.specs.Answers.{madeAnswer, storeAnswer, snapshotAnswer};
@@ -262,7 +264,7 @@ fn of_build_refusal(e: SublistError) -> CAnswer
     ensures { λ r. ⌜ wordsOf r ≡ answerWords (buildRefusal e) ⌝ }
 {
     match e {
-        SublistError::TooManyEntries => answer_of(10, 0, 0),
+        SublistError::EntriesFull => answer_of(10, 0, 0),
         SublistError::BadEntry(index) => answer_of(12, index as u64, 0),
         SublistError::InvalidPattern(inner) => of_held(inner),
         SublistError::NodesFull(needed) => answer_of(14, needed as u64, 0),
@@ -317,7 +319,7 @@ pub extern "C" fn router_insert(
     ensures { λ r. ⌜ (wordsOf r ≡ answerWords (insertSays (listOf entries used) (length (now (words .entry)) / 3) (length (now (store .entry))) (now (pattern .entry)))) × (now (words .exit) ≡ numbersAfter (listOf entries used) (now (words .entry)) (now (store .entry)) (now (pattern .entry)) target) × (now (store .exit) ≡ storeAfter (listOf entries used) (entriesIn (now (words .entry))) (now (store .entry)) (now (pattern .entry))) ⌝ }
 {
     let list = ListState { entries, used };
-    of_inserted(sublist::insert_numbers(list, words, store, pattern, target))
+    of_inserted(sublist_entries::insert_numbers(list, words, store, pattern, target))
 }
 
 // The table of a list, all its whole entries: node count, worst case and generation, or why not.

@@ -14,8 +14,8 @@ use Rattle.subject.specs.Utf8.{firstBad}
 use Rattle.subject.specs.Answers.{Answer, answer, unless}
 use Rattle.subject.specs.Grammar.{badChar, firstOf, badChars, badToken, tailAt, check, notUtf8, grammar}
 use Rattle.sublist_tree.specs.Lists.{All}
-use Rattle.sublist.specs.declared.Entry.{Entry}
-use Rattle.sublist.specs.Entries.{textOf}
+use Rattle.sublist_entries.specs.declared.Entry.{Entry}
+use Rattle.sublist_entries.specs.Entries.{textOf}
 use Rattle.sublist.specs.Building.{invalid, badEntry, badEntries}
 
 -- an answer that accepts has one value

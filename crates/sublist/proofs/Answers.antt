@@ -18,11 +18,11 @@ use Rattle.sublist_tree.proofs.Hash.{hash-due, hash-peak, hash-fork}
 use Rattle.sublist_walk.specs.Walk.{found}
 use Rattle.sublist_walk.specs.Matching.{Outcome, written, ifSubject, matchTable}
 use Rattle.sublist_walk.proofs.Held.{match-holds}
-use Rattle.sublist.specs.declared.Entry.{Entry}
-use Rattle.sublist.specs.Entries.{readFrom, linesOf}
+use Rattle.sublist_entries.specs.declared.Entry.{Entry}
+use Rattle.sublist_entries.specs.Entries.{readFrom, linesOf}
 use Rattle.sublist.specs.Building.{needed, worstOf, buildSays}
 use Rattle.sublist.specs.Leaving.{buildLeaves}
-use Rattle.sublist.proofs.Filling.{nodesIn, targetsIn}
+use Rattle.sublist.specs.Passes.{nodeWordsIn, targetWordsIn}
 use Rattle.sublist.proofs.Builds.{Taken, taken, build-stands, build-accepted}
 
 module _ (es : List Entry) (store a ts : List ℕ) (t : Taken es store (length a / 16) (length ts)) (subject : List ℕ) where
@@ -34,9 +34,9 @@ module _ (es : List Entry) (store a ts : List ℕ) (t : Taken es store (length a
       (hash-fork (map fnv (tokens subject)) (readFrom store es) (build-accepted es store a ts t))
 
   pub built-match : (out : List ℕ)
-      → matchTable (needed store es) (length es) (nodesIn (buildLeaves es store a ts)) (targetsIn (buildLeaves es store a ts)) subject out
+      → matchTable (needed store es) (length es) (nodeWordsIn (buildLeaves es store a ts)) (targetWordsIn (buildLeaves es store a ts)) subject out
       ≡ ifSubject (grammar false subject) out (written (found (due eqb (map fnv (tokens subject)) (linesOf store es)) (peakOf eqb (map fnv (tokens subject)) (linesOf store es))) out)
   built-match out =
-      match-holds (nodesIn (buildLeaves es store a ts)) (needed store es) (length es) (targetsIn (buildLeaves es store a ts)) (linesOf store es) (build-stands es store a ts t) subject out
+      match-holds (nodeWordsIn (buildLeaves es store a ts)) (needed store es) (length es) (targetWordsIn (buildLeaves es store a ts)) (linesOf store es) (build-stands es store a ts t) subject out
       (omega (arith, hash-peak (map fnv (tokens subject)) (readFrom store es), peak-bounded, t .fork))
       ∙ (λ i. ifSubject (grammar false subject) out (written (found (hash-due (map fnv (tokens subject)) (readFrom store es) i) (hash-peak (map fnv (tokens subject)) (readFrom store es) i)) out))

@@ -21,12 +21,13 @@ use Rattle.sublist_area.specs.Words.{word}
 use Rattle.sublist_area.specs.Growing.{planted}
 use Rattle.sublist_area.proofs.Stores.{planted-behind, length-planted}
 use Rattle.sublist_walk.specs.Holds.{Holds}
-use Rattle.sublist.specs.declared.Entry.{Entry}
-use Rattle.sublist.specs.Entries.{textOf, targetWord, readFrom, linesOf}
+use Rattle.sublist_entries.specs.declared.Entry.{Entry}
+use Rattle.sublist_entries.specs.Entries.{textOf, targetWord, readFrom, linesOf}
 use Rattle.sublist.specs.Building.{invalid, badEntry, badEntries, needed, worstOf, buildSays}
 use Rattle.sublist.specs.Passes.{End, end, Growth, growth, stopped, linesIn, counted, countWord, startWord, nodeWorst, told, settled, laidAt, laid, Filling, filling, filledBy, filled}
 use Rattle.sublist.specs.Leaving.{finished, started, buildLeaves}
-use Rattle.sublist.proofs.Filling.{nodesIn, targetsIn, nodeOf}
+use Rattle.sublist.proofs.Filling.{nodeOf}
+use Rattle.sublist.specs.Passes.{nodeWordsIn, targetWordsIn}
 use Rattle.sublist.proofs.Entering.{toEnd}
 use Rattle.sublist.proofs.Standing.{targetEnd, stands, targets-kept}
 use Rattle.sublist.proofs.Composed.{long, no-room, all-accepted, needs, ends-length, end-targets, entered}
@@ -117,7 +118,7 @@ laid-left (suc left) i a from n l x h =
     ∙ getD-set-other (set a (i * 16 + 4) from) (i * 16 + 5) x 0 0 (λ e. omega arith)
     ∙ getD-set-other a (i * 16 + 4) x from 0 (λ e. omega arith)
 
-filled-left : (es : List End) (xs a ts : List ℕ) (n : ℕ) → All (λ e. nodeOf e < n) es → Behind (nodesIn (filled (filling a ts) es xs)) a (n * 16)
+filled-left : (es : List End) (xs a ts : List ℕ) (n : ℕ) → All (λ e. nodeOf e < n) es → Behind (nodeWordsIn (filled (filling a ts) es xs)) a (n * 16)
 unfolding filled filledBy
 filled-left [] xs a ts n in-n x h = refl
 filled-left (e ∷ es) [] a ts n in-n x h = refl
@@ -150,67 +151,67 @@ module _ (es : List Entry) (store a ts : List ℕ) (t : Taken es store (length a
       ) refl
 
   -- the areas hold the tree of the entries
-  pub build-stands : Holds (nodesIn (buildLeaves es store a ts)) (needed store es) (length es) (targetsIn (buildLeaves es store a ts)) (linesOf store es)
+  pub build-stands : Holds (nodeWordsIn (buildLeaves es store a ts)) (needed store es) (length es) (targetWordsIn (buildLeaves es store a ts)) (linesOf store es)
   build-stands =
       let m = entered es store (t .few) (t .sound) a (t .fits) in
       let long-ends = ends-length es store (t .few) (t .sound) in
       let h = stands (linesOf store es) b (m .2) ts (omega (arith, long-ends, t .wide)) (omega (arith, long-ends, t .few)) in
-      subst (λ f. Holds (nodesIn f) (needed store es) (length es) (targetsIn f) (linesOf store es)) (sym leaves-are)
-      (subst (λ xs. Holds (nodesIn (filled (filling (laid (settled b (size T - 1)) 0 (size T) 0) ts) E xs)) (needed store es) (length es)
-      (targetsIn (filled (filling (laid (settled b (size T - 1)) 0 (size T) 0) ts) E xs)) (linesOf store es)) (end-targets es store (t .few) (t .sound))
-      (subst (λ n. Holds (nodesIn (filled (filling (laid (settled b (size T - 1)) 0 (size T) 0) ts) E (map targetEnd (endsOf eqb (linesOf store es))))) n (length es)
-      (targetsIn (filled (filling (laid (settled b (size T - 1)) 0 (size T) 0) ts) E (map targetEnd (endsOf eqb (linesOf store es))))) (linesOf store es)) (needs es store (t .few) (t .sound))
-      (subst (λ k. Holds (nodesIn (filled (filling (laid (settled b (size T - 1)) 0 (size T) 0) ts) E (map targetEnd (endsOf eqb (linesOf store es))))) (size T) k
-      (targetsIn (filled (filling (laid (settled b (size T - 1)) 0 (size T) 0) ts) E (map targetEnd (endsOf eqb (linesOf store es))))) (linesOf store es)) long-ends h)))
+      subst (λ f. Holds (nodeWordsIn f) (needed store es) (length es) (targetWordsIn f) (linesOf store es)) (sym leaves-are)
+      (subst (λ xs. Holds (nodeWordsIn (filled (filling (laid (settled b (size T - 1)) 0 (size T) 0) ts) E xs)) (needed store es) (length es)
+      (targetWordsIn (filled (filling (laid (settled b (size T - 1)) 0 (size T) 0) ts) E xs)) (linesOf store es)) (end-targets es store (t .few) (t .sound))
+      (subst (λ n. Holds (nodeWordsIn (filled (filling (laid (settled b (size T - 1)) 0 (size T) 0) ts) E (map targetEnd (endsOf eqb (linesOf store es))))) n (length es)
+      (targetWordsIn (filled (filling (laid (settled b (size T - 1)) 0 (size T) 0) ts) E (map targetEnd (endsOf eqb (linesOf store es))))) (linesOf store es)) (needs es store (t .few) (t .sound))
+      (subst (λ k. Holds (nodeWordsIn (filled (filling (laid (settled b (size T - 1)) 0 (size T) 0) ts) E (map targetEnd (endsOf eqb (linesOf store es))))) (size T) k
+      (targetWordsIn (filled (filling (laid (settled b (size T - 1)) 0 (size T) 0) ts) E (map targetEnd (endsOf eqb (linesOf store es))))) (linesOf store es)) long-ends h)))
 
   pub build-accepted : All Accepted (readFrom store es)
   build-accepted = all-accepted es store (t .few) (t .sound)
 
   -- the node words behind are left
-  pub nodes-left : (x : ℕ) → needed store es * 16 ≤ x → getD (nodesIn (buildLeaves es store a ts)) x 0 ≡ getD a x 0
+  pub nodes-left : (x : ℕ) → needed store es * 16 ≤ x → getD (nodeWordsIn (buildLeaves es store a ts)) x 0 ≡ getD a x 0
   nodes-left x h =
       let m = entered es store (t .few) (t .sound) a (t .fits) in
       let n = needs es store (t .few) (t .sound) in
       let up : size T * 16 ≤ x = omega arith in
       let up16 : 16 ≤ x = omega (arith, size-pos T) in
-      ap (λ f. getD (nodesIn f) x 0) leaves-are
+      ap (λ f. getD (nodeWordsIn f) x 0) leaves-are
       ∙ filled-left E (map targetWord es) (laid (settled b (size T - 1)) 0 (size T) 0) ts (size T) (m .2 .inside) x up
       ∙ laid-left (size T) 0 (settled b (size T - 1)) 0 (size T) (omega arith) x up
       ∙ settled-left (size T - 1) b (size T) (omega (arith, size-pos T)) x up
       ∙ m .4 x up ∙ planted-behind a x up16
 
   -- and so are the target words behind
-  pub places-left : (p : ℕ) → length es ≤ p → getD (targetsIn (buildLeaves es store a ts)) p 0 ≡ getD ts p 0
+  pub places-left : (p : ℕ) → length es ≤ p → getD (targetWordsIn (buildLeaves es store a ts)) p 0 ≡ getD ts p 0
   places-left p h =
       let m = entered es store (t .few) (t .sound) a (t .fits) in
       let long-ends = ends-length es store (t .few) (t .sound) in
-      ap (λ f. getD (targetsIn f) p 0) leaves-are
-      ∙ ap (λ xs. getD (targetsIn (filled (filling (laid (settled b (size T - 1)) 0 (size T) 0) ts) E xs)) p 0) (sym (end-targets es store (t .few) (t .sound)))
+      ap (λ f. getD (targetWordsIn f) p 0) leaves-are
+      ∙ ap (λ xs. getD (targetWordsIn (filled (filling (laid (settled b (size T - 1)) 0 (size T) 0) ts) E xs)) p 0) (sym (end-targets es store (t .few) (t .sound)))
       ∙ targets-kept (linesOf store es) b (m .2) ts (omega (arith, long-ends, t .wide)) (omega (arith, long-ends, t .few)) p (omega (arith, long-ends))
 
 -- the last passes write targets only where neither 15 nor 16 applies and the first pass came through
 finished-keeps : (es : List Entry) (store ts : List ℕ) (g : Growth)
     → (ltb (length ts) (length es) ≡ false → ltb 1024 (worstOf store es) ≡ false → (n : ℕ) (a : List ℕ) (ends : List End) → g ≡ growth n a ends → ⊥)
-    → targetsIn (finished es store ts g) ≡ ts
+    → targetWordsIn (finished es store ts g) ≡ ts
 finished-keeps es store ts (stopped a) never = refl
 finished-keeps es store ts (growth n a ends) never = go (ltb (length ts) (length es)) refl (ltb 1024 (worstOf store es)) refl
   where
     go : (b : Bool) → ltb (length ts) (length es) ≡ b → (c : Bool) → ltb 1024 (worstOf store es) ≡ c
-        → targetsIn (pick b (filling a ts) (pick c (filling (settled a (n - 1)) ts) (filled (filling (laid (settled a (n - 1)) 0 n 0) ts) ends (map targetWord es)))) ≡ ts
+        → targetWordsIn (pick b (filling a ts) (pick c (filling (settled a (n - 1)) ts) (filled (filling (laid (settled a (n - 1)) 0 n 0) ts) ends (map targetWord es)))) ≡ ts
     go true e c f = refl
     go false e true f = refl
     go false e false f = absurd (never e f n a ends refl)
 
 -- a refused build leaves the targets
 pub refused-targets : (es : List Entry) (store a ts : List ℕ) (generation k : ℕ) (vs : List ℕ) → buildSays es store (length a / 16) (length ts) generation ≡ answer (suc k) vs
-    → targetsIn (buildLeaves es store a ts) ≡ ts
+    → targetWordsIn (buildLeaves es store a ts) ≡ ts
 unfolding buildSays buildLeaves
 refused-targets es store a ts generation k vs refused = go (ltb 2048 (length es)) refl (badEntries store 0 es) refl (ltb (length a) 16) refl refused
   where
     go : (b : Bool) → ltb 2048 (length es) ≡ b → (o : Option Answer) → badEntries store 0 es ≡ o → (c : Bool) → ltb (length a) 16 ≡ c
         → pick b (answer 10 []) (unless o (pick (ltb (length a / 16) (needed store es)) (answer 14 (needed store es ∷ [])) (pick (ltb (length ts) (length es)) (answer 15 [])
         (pick (ltb 1024 (worstOf store es)) (answer 16 (worstOf store es ∷ 1024 ∷ [])) (answer 0 (needed store es ∷ worstOf store es ∷ generation ∷ [])))))) ≡ answer (suc k) vs
-        → targetsIn (pick b (filling a ts) (started es store a ts o)) ≡ ts
+        → targetWordsIn (pick b (filling a ts) (started es store a ts o)) ≡ ts
     go true p o q c r e = refl
     go false p (some x) q c r e = refl
     go false p none q true r e = rw r refl

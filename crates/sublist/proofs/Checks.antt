@@ -17,9 +17,9 @@ use Rattle.subject.specs.Grammar.{grammar, firstOf}
 use Rattle.sublist.specs.declared.SublistError.{SublistError}
 use Rattle.sublist.specs.declared.EntryCheck.{EntryCheck}
 use Rattle.sublist.specs.declared.EntryCheck.the-variants.{Sound, Bad}
-use Rattle.sublist.specs.Answers.{held}
+use Rattle.sublist.specs.Building.{held}
 use Rattle.sublist.specs.Building.{invalid, badEntry, badEntries}
-use Rattle.sublist.specs.Flat.{unflat}
+use Rattle.sublist_entries.specs.Numbers.{unflat}
 use Rattle.sublist.specs.Core.{checked, placeOf}
 use Rattle.sublist.proofs.Listed.{unflat-on, unflat-end}
 

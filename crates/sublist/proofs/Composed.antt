@@ -22,18 +22,19 @@ use Rattle.sublist_tree.proofs.Route.{root-within}
 use Rattle.sublist_tree.proofs.Bytes.{eqb-sound, eqb-whole}
 use Rattle.sublist_trie.specs.Trie.{Trie, root, grow, size, child, insT, keysOf, builtFrom, built}
 use Rattle.sublist_trie.specs.Ends.{endsFrom, endsOf}
+use Rattle.sublist_trie.proofs.Children.{built-for}
 use Rattle.sublist_trie.proofs.Runs.{size-pos}
 use Rattle.sublist_trie.proofs.Sizes.{size-nodes}
 use Rattle.sublist_area.specs.Words.{word}
 use Rattle.sublist_area.specs.Growing.{planted}
 use Rattle.sublist_area.proofs.Stores.{length-planted}
 use Rattle.sublist_area.proofs.Grown.{Fits}
-use Rattle.sublist.specs.declared.Entry.{Entry}
-use Rattle.sublist.specs.Entries.{textOf, targetWord, readFrom, linesOf}
+use Rattle.sublist_entries.specs.declared.Entry.{Entry}
+use Rattle.sublist_entries.specs.Entries.{textOf, targetWord, readFrom, linesOf}
 use Rattle.sublist.specs.Building.{badEntries, needed, worstOf, buildSays}
 use Rattle.sublist.specs.Passes.{End, Growth, growth, stopped, nodeWorst, linesIn, settled, laid, Filling, filling, filled}
-use Rattle.sublist.specs.Leaving.{finished, started, buildLeaves}
-use Rattle.sublist.specs.Core.{rootWorst, targetsOf, allIn, answerBy, leftBy, ifBad, builtBy, leavesBy}
+use Rattle.sublist.specs.Leaving.{finished, started, buildLeaves, buildInto}
+use Rattle.sublist.specs.Core.{rootWorst, targetsOf, allIn, answerBy, leftBy, ifBad, builtBy, leavesBy, coreInto}
 use Rattle.sublist.proofs.AcceptedEntries.{Sound, sound-entries}
 use Rattle.sublist.proofs.Entering.{toEnd, Entered, AllIn, Stopped, Outcome, enters}
 use Rattle.sublist.proofs.Standing.{targetEnd, all-targets, entered-root, worst-found}
@@ -95,7 +96,7 @@ module _ (es : List Entry) (store : List ℕ) (few : length es ≤ 2048) (sound 
   -- the tree has as many nodes as are needed
   pub needs : size T ≡ needed store es
   unfolding needed
-  needs = size-nodes eqb eqb-sound eqb-whole ls
+  needs = size-nodes eqb eqb-sound eqb-whole ls (built eqb ls) (built-for eqb eqb-sound eqb-whole ls)
 
   small : size T < 2 ^ 32
   unfolding built size
@@ -220,3 +221,8 @@ core-leaves es store a ts = go (ltb 2048 (length es)) refl (badEntries store 0 e
     go true e o q = refl
     go false e (some r) q = refl
     go false e none q = leaves-sound es store (ltb-false 2048 (length es) e) q a ts
+
+-- both
+pub core-builds : (es : List Entry) (store a ts : List ℕ) (generation : ℕ) → coreInto (length es) es store a ts generation ≡ buildInto es store a ts generation
+unfolding buildInto
+core-builds es store a ts generation i = record { says = core-says es store a (length ts) generation i; areas = core-leaves es store a ts i }

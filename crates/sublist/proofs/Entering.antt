@@ -21,9 +21,8 @@ use Rattle.sublist_area.specs.declared.Placed.{Placed}
 use Rattle.sublist_area.specs.declared.Placed.the-variants.{At, Full, Broken}
 use Rattle.sublist_area.specs.Words.{word}
 use Rattle.sublist_area.specs.Growing.{grown}
-use Rattle.sublist_area.proofs.Rep.{Rep}
-use Rattle.sublist_area.proofs.Step.{rep-store}
-use Rattle.sublist_area.proofs.Grown.{LeftWord, Grew, Fits, PutIn, NoRoom, RunEnds, grown-all, ins-more}
+use Rattle.sublist_area.proofs.Grown.{LeftWord, Fits, NoRoom}
+use Rattle.sublist_area.proofs.Hashes.{Rep, Grew, PutIn, RunEnds, rep-store, grown-all, ins-more}
 use Rattle.sublist.specs.Passes.{End, end, Growth, growth, stopped, startWord, countWord, counted, joined, lineIn, linesIn}
 use Rattle.sublist.proofs.Stores.{word-set, word-field, word-node}
 use Rattle.sublist.proofs.Filling.{nodeOf, endIs, hit, countEnds, end-is, end-own, length-counted, counted-own, counted-other, counted-word}

@@ -6,8 +6,11 @@ use native.Mathlib.Omega.{arith}
 use mathlib.Core.List.{List, [], _∷_, _++_}
 use lib.ListN.{length, getD, take, drop, set}
 use lib.Seq.{sets, length-sets, sets-eq, take-suc, length-take-le}
-use Rattle.sublist.specs.declared.Entry.{Entry}
-use Rattle.sublist.specs.Flat.{flat, unflat, noEntry, putEntry}
+use Rattle.sublist_entries.specs.declared.Entry.{Entry}
+use Rattle.sublist.specs.Flat.{flat}
+use Rattle.sublist_entries.specs.Numbers.{unflat, putEntry}
+use Rattle.sublist_entries.proofs.Numbered.{put-inside, put-length}
+use Rattle.sublist_entries.specs.Placing.{noEntry}
 
 -- after i turns
 abbrev pub filled : List Entry → List ℕ → ℕ → List ℕ
@@ -17,17 +20,6 @@ filled ys ws (suc i) = putEntry (filled ys ws i) i (getD ys i noEntry)
 -- there is room for the numbers of n entries
 abbrev pub RoomFor : ℕ → ℕ → Type 0
 RoomFor n m = 3 * n ≤ m
-
-pub room-at : (n i m : ℕ) → RoomFor n m → i < n → 3 * i + 3 ≤ m
-room-at n i m h k = omega (arith, h, k)
-
-put-is : (l : List ℕ) (i : ℕ) (e : Entry) → putEntry l i e ≡ sets l (3 * i) (flat (e ∷ []))
-put-is l i e =
-    ap (λ (k : ℕ). set (set (set l (3 * i) (e .start)) k (e .length)) (3 * i + 2) (e .target)) (omega arith)
-    ∙ ap (λ (k : ℕ). set (set (set l (3 * i) (e .start)) (suc (3 * i)) (e .length)) k (e .target)) (omega arith)
-
-pub put-length : (l : List ℕ) (i : ℕ) (e : Entry) → length (putEntry l i e) ≡ length l
-put-length l i e = ap length (put-is l i e) ∙ length-sets l (3 * i) (flat (e ∷ []))
 
 pub filled-length : (ys : List Entry) (ws : List ℕ) (i : ℕ) → length (filled ys ws i) ≡ length ws
 filled-length ys ws zero = refl
@@ -48,11 +40,11 @@ sets-append : (us vs l : List ℕ) (i : ℕ) → sets l i (us ++ vs) ≡ sets (s
 sets-append [] vs l i = ap (λ (k : ℕ). sets l k vs) (omega arith)
 sets-append (a ∷ us) vs l i = sets-append us vs (set l i a) (suc i) ∙ ap (λ (k : ℕ). sets (sets (set l i a) (suc i) us) k vs) (omega arith)
 
-sets-filled : (ys : List Entry) (ws : List ℕ) (i : ℕ) → i ≤ length ys → filled ys ws i ≡ sets ws 0 (flat (take i ys))
-sets-filled ys ws zero h = refl
-sets-filled ys ws (suc i) h =
-    ap (λ (l : List ℕ). putEntry l i e) (sets-filled ys ws i (le-of-lt h))
-    ∙ put-is (sets ws 0 (flat (take i ys))) i e
+sets-filled : (ys : List Entry) (ws : List ℕ) (i : ℕ) → i ≤ length ys → RoomFor i (length ws) → filled ys ws i ≡ sets ws 0 (flat (take i ys))
+sets-filled ys ws zero h room = refl
+sets-filled ys ws (suc i) h room =
+    ap (λ (l : List ℕ). putEntry l i e) (sets-filled ys ws i (le-of-lt h) (omega arith))
+    ∙ put-inside (sets ws 0 (flat (take i ys))) i e (omega (arith, length-sets ws 0 (flat (take i ys)), room))
     ∙ ap (λ (k : ℕ). sets (sets ws 0 (flat (take i ys))) k (flat (e ∷ []))) (sym at-i)
     ∙ sym (sets-append (flat (take i ys)) (flat (e ∷ [])) ws 0)
     ∙ ap (sets ws 0) (sym (flat-append (take i ys) (e ∷ [])) ∙ ap flat (sym (take-suc ys i noEntry h)))
@@ -66,7 +58,7 @@ sets-filled ys ws (suc i) h =
 -- at the end: the first n entries' numbers, and what lies behind them as it was
 pub filled-first : (ys : List Entry) (n : ℕ) (ws : List ℕ) → n ≤ length ys → RoomFor n (length ws) → filled ys ws n ≡ flat (take n ys) ++ drop (3 * n) ws
 filled-first ys n ws k h =
-    sets-filled ys ws n k
+    sets-filled ys ws n k h
     ∙ sets-eq (flat (take n ys)) ws 0 (subst (λ (m : ℕ). 0 + m ≤ length ws) (sym long) (subst (λ (m : ℕ). m ≤ length ws) (sym (zero-add (3 * n))) h))
     ∙ ap (λ (m : ℕ). flat (take n ys) ++ drop m ws) (zero-add (length (flat (take n ys))) ∙ long)
   where

@@ -12,14 +12,8 @@ use borrow.Author.Tests.{eqb-true, eqb-false, eq-eqb}
 use Rattle.subject.specs.Choice.{pick, and}
 use Rattle.sublist_tree.specs.Lists.{All}
 use Rattle.sublist_area.specs.Words.{word}
-use Rattle.sublist.specs.Passes.{End, end, countWord, startWord, counted, Filling, filling, filledBy, filled}
+use Rattle.sublist.specs.Passes.{End, end, countWord, startWord, counted, Filling, filling, nodeWordsIn, targetWordsIn, filledBy, filled}
 use Rattle.sublist.proofs.Stores.{word-set, word-field, word-node}
-
-abbrev pub nodesIn : Filling → List ℕ
-nodesIn (filling a ts) = a
-
-abbrev pub targetsIn : Filling → List ℕ
-targetsIn (filling a ts) = ts
 
 -- the end is node i's, of this kind
 abbrev pub endIs : End → ℕ → Bool → Bool
@@ -147,9 +141,9 @@ module _ (n : ℕ) (start size : ℕ → Bool → ℕ) (apart : Ranges n start s
 
   abbrev pub Result : List ℕ → List ℕ → List End → List ℕ → (ℕ → Bool → ℕ) → Type 0
   Result a ts es xs c =
-      Says (nodesIn (filled (filling a ts) es xs)) (λ i b. c i b + countEnds i b es)
-      × ((i : ℕ) (b : Bool) (k : ℕ) → i < n → k < countEnds i b es → getD (targetsIn (filled (filling a ts) es xs)) (start i b + c i b + k) 0 ≡ getD (pickEnds i b es xs) k 0)
-      × ((p : ℕ) → Free c es p → getD (targetsIn (filled (filling a ts) es xs)) p 0 ≡ getD ts p 0)
+      Says (nodeWordsIn (filled (filling a ts) es xs)) (λ i b. c i b + countEnds i b es)
+      × ((i : ℕ) (b : Bool) (k : ℕ) → i < n → k < countEnds i b es → getD (targetWordsIn (filled (filling a ts) es xs)) (start i b + c i b + k) 0 ≡ getD (pickEnds i b es xs) k 0)
+      × ((p : ℕ) → Free c es p → getD (targetWordsIn (filled (filling a ts) es xs)) p 0 ≡ getD ts p 0)
 
   pub filled-at : (es : List End) (xs a ts : List ℕ) (c : ℕ → Bool → ℕ) → length es ≡ length xs → All (λ e. nodeOf e < n) es → n * 16 ≤ length a → Says a c → Room c es
       → ((i : ℕ) (b : Bool) → i < n → start i b + size i b ≤ length ts) → Result a ts es xs c
@@ -169,7 +163,7 @@ module _ (n : ℕ) (start size : ℕ → Bool → ℕ) (apart : Ranges n start s
     where
       ranges : (i : ℕ) (b : Bool) (k : ℕ) → i < n → k < hit (end j tail) i b + countEnds i b es → j < n → c j tail + 1 ≤ size j tail
           → Result (counted a j tail) (set ts (word a j (startWord tail) + word a j (countWord tail)) x) es xs (more c (end j tail))
-          → getD (targetsIn (filled (filling (counted a j tail) (set ts (word a j (startWord tail) + word a j (countWord tail)) x)) es xs)) (start i b + c i b + k) 0
+          → getD (targetWordsIn (filled (filling (counted a j tail) (set ts (word a j (startWord tail) + word a j (countWord tail)) x)) es xs)) (start i b + c i b + k) 0
           ≡ getD (pick (endIs (end j tail) i b) (x ∷ pickEnds i b es xs) (pickEnds i b es xs)) k 0
       ranges i b k l h lj one ih = go (endIs (end j tail) i b) refl k h
         where
@@ -182,21 +176,21 @@ module _ (n : ℕ) (start size : ℕ → Bool → ℕ) (apart : Ranges n start s
               let same : start i b + more c (end j tail) i b ≡ start i′ b′ + more c (end j tail) i′ b′ = (λ k. start (r .0 k) (r .1 k) + more c (end j tail) (r .0 k) (r .1 k)) in
               omega arith
 
-          go : (h : Bool) → endIs (end j tail) i b ≡ h → (k : ℕ) → k < pick h 1 0 + countEnds i b es → getD (targetsIn (filled (filling (counted a j tail) (set ts (word a j (startWord tail) + word a j (countWord tail)) x)) es xs)) (start i b + c i b + k) 0 ≡ getD (pick h (x ∷ pickEnds i b es xs) (pickEnds i b es xs)) k 0
-          go false e k h = ap (λ p. getD (targetsIn (filled (filling (counted a j tail) (set ts (word a j (startWord tail) + word a j (countWord tail)) x)) es xs)) p 0) (omega (arith, ap (λ h. pick {A = ℕ} h 1 0) e)) ∙ ih .1 i b k l (omega arith)
-          go true e (suc k) h = ap (λ p. getD (targetsIn (filled (filling (counted a j tail) (set ts (word a j (startWord tail) + word a j (countWord tail)) x)) es xs)) p 0) (omega (arith, ap (λ h. pick {A = ℕ} h 1 0) e)) ∙ ih .1 i b k l (omega arith)
+          go : (h : Bool) → endIs (end j tail) i b ≡ h → (k : ℕ) → k < pick h 1 0 + countEnds i b es → getD (targetWordsIn (filled (filling (counted a j tail) (set ts (word a j (startWord tail) + word a j (countWord tail)) x)) es xs)) (start i b + c i b + k) 0 ≡ getD (pick h (x ∷ pickEnds i b es xs) (pickEnds i b es xs)) k 0
+          go false e k h = ap (λ p. getD (targetWordsIn (filled (filling (counted a j tail) (set ts (word a j (startWord tail) + word a j (countWord tail)) x)) es xs)) p 0) (omega (arith, ap (λ h. pick {A = ℕ} h 1 0) e)) ∙ ih .1 i b k l (omega arith)
+          go true e (suc k) h = ap (λ p. getD (targetWordsIn (filled (filling (counted a j tail) (set ts (word a j (startWord tail) + word a j (countWord tail)) x)) es xs)) p 0) (omega (arith, ap (λ h. pick {A = ℕ} h 1 0) e)) ∙ ih .1 i b k l (omega arith)
           go true e zero h =
               let q = end-is j tail i b e in
               let here : start i b + c i b + 0 ≡ word a j (startWord tail) + word a j (countWord tail) = omega (arith, says i b l .0, says i b l .1, ap (λ y. word a y (startWord tail)) (q .0), ap (λ y. word a i (startWord y)) (q .1), ap (λ y. word a y (countWord tail)) (q .0), ap (λ y. word a i (countWord y)) (q .1)) in
               ih .2 (start i b + c i b + 0) (λ i′ b′ l′ lo hi. taken i′ b′ l′ e lo hi) ∙ ap (λ p. getD (set ts (word a j (startWord tail) + word a j (countWord tail)) x) p 0) here ∙ getD-set-same ts (word a j (startWord tail) + word a j (countWord tail)) x 0 (omega (arith, here, wide i b l, room i b l, ap (λ h. pick {A = ℕ} h 1 0) e))
 
-pub length-filled : (es : List End) (xs a ts : List ℕ) → length (nodesIn (filled (filling a ts) es xs)) ≡ length a
+pub length-filled : (es : List End) (xs a ts : List ℕ) → length (nodeWordsIn (filled (filling a ts) es xs)) ≡ length a
 unfolding filled filledBy
 length-filled [] xs a ts = refl
 length-filled (e ∷ es) [] a ts = refl
 length-filled (end j tail ∷ es) (x ∷ xs) a ts = length-filled es xs (counted a j tail) (set ts (word a j (startWord tail) + word a j (countWord tail)) x) ∙ length-counted a j tail
 
-pub length-targets : (es : List End) (xs a ts : List ℕ) → length (targetsIn (filled (filling a ts) es xs)) ≡ length ts
+pub length-targets : (es : List End) (xs a ts : List ℕ) → length (targetWordsIn (filled (filling a ts) es xs)) ≡ length ts
 unfolding filled filledBy
 length-targets [] xs a ts = refl
 length-targets (e ∷ es) [] a ts = refl
@@ -204,7 +198,7 @@ length-targets (end j tail ∷ es) (x ∷ xs) a ts =
     length-targets es xs (counted a j tail) (set ts (word a j (startWord tail) + word a j (countWord tail)) x) ∙ length-set ts (word a j (startWord tail) + word a j (countWord tail)) x
 
 -- words that are no count stay
-pub filled-word : (es : List End) (xs a ts : List ℕ) (i g : ℕ) → g < 16 → (5 ≡ g → ⊥) → (7 ≡ g → ⊥) → word (nodesIn (filled (filling a ts) es xs)) i g ≡ word a i g
+pub filled-word : (es : List End) (xs a ts : List ℕ) (i g : ℕ) → g < 16 → (5 ≡ g → ⊥) → (7 ≡ g → ⊥) → word (nodeWordsIn (filled (filling a ts) es xs)) i g ≡ word a i g
 unfolding filled filledBy
 filled-word [] xs a ts i g lg d5 d7 = refl
 filled-word (e ∷ es) [] a ts i g lg d5 d7 = refl

@@ -5,7 +5,6 @@ pub mod Answers
 pub mod Builds
 pub mod Checks
 pub mod Composed
-pub mod Deciding
 pub mod Entering
 pub mod Filled
 pub mod Filling
@@ -20,10 +19,8 @@ pub mod Places
 pub mod Ranges
 pub mod Runs
 pub mod Settling
-pub mod Sizes
 pub mod Stages
 pub mod Standing
 pub mod Stores
 pub mod Turns
-pub mod Unflat
 pub mod Whole

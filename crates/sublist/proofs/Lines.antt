@@ -17,9 +17,9 @@ use Rattle.sublist_area.specs.declared.Placed.the-variants.{At, Full, Broken}
 use Rattle.sublist_area.specs.Growing.{grown}
 use Rattle.sublist.specs.declared.Ended.{Ended}
 use Rattle.sublist.specs.declared.Ended.the-variants as ended
-use Rattle.sublist.specs.Entries.{linesOf}
+use Rattle.sublist_entries.specs.Entries.{linesOf}
 use Rattle.sublist.specs.Passes.{End, end, Growth, growth, stopped, counted, joined, lineIn, linesIn}
-use Rattle.sublist.specs.Flat.{unflat}
+use Rattle.sublist_entries.specs.Numbers.{unflat}
 use Rattle.sublist.specs.Core.{reached, runIn, endedAs, endOf, endsOf, EndBelow}
 use Rattle.sublist.proofs.Listed.{unflat-on, unflat-end}
 

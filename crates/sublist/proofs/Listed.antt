@@ -8,12 +8,12 @@ use mathlib.Core.List.{List, [], _∷_}
 use lib.ListN.{length, getD, drop}
 use lib.Seq.{drop-cons}
 use borrow.Author.Tests.{eq-eqb, ne-eqb}
-use Rattle.sublist.specs.declared.Entry.{Entry}
+use Rattle.sublist_entries.specs.declared.Entry.{Entry}
 use Rattle.subject.specs.Text.{isStar}
 use Rattle.subject.specs.Fnv.{fnv}
 use Rattle.sublist_tree.specs.Tree.{star, lit}
 use Rattle.sublist.specs.Passes.{end}
-use Rattle.sublist.specs.Flat.{unflat}
+use Rattle.sublist_entries.specs.Numbers.{unflat}
 use Rattle.sublist.specs.Core.{tokenKey, endOf, endsOf}
 
 -- entry i

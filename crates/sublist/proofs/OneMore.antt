@@ -16,13 +16,13 @@ use Rattle.sublist_tree.specs.Tree.{Line, line, onto, lineOf}
 use Rattle.sublist_tree.specs.Nodes.{nodes}
 use Rattle.sublist_tree.proofs.Sorting.{map-append}
 use Rattle.sublist_tree.proofs.Bytes.{eqb-whole}
-use Rattle.sublist.specs.declared.Entry.{Entry}
-use Rattle.sublist.specs.Entries.{textOf, linesOf, targetWord}
+use Rattle.sublist_entries.specs.declared.Entry.{Entry}
+use Rattle.sublist_entries.specs.Entries.{textOf, linesOf, targetWord}
 use Rattle.sublist.specs.Building.{badEntries, needed}
 use Rattle.sublist.specs.Sharing.{keysOf, shared, keysIn, keyOf, sharedBy, longest}
-use Rattle.sublist.specs.Flat.{unflat}
+use Rattle.sublist_entries.specs.Numbers.{unflat}
 use Rattle.sublist.proofs.AcceptedEntries.{Sound, sound-entries}
-use Rattle.sublist.proofs.Unflat.{entryAt, unflat-more, unflat-at}
+use Rattle.sublist_entries.proofs.Unflat.{entryAt, unflat-more, unflat-at}
 use Rattle.sublist.proofs.Needed.{longestRun, longest-most, shared-self, nodes-more}
 
 largest-last : (xs : List ℕ) (x : ℕ) → largest (xs ++ (x ∷ [])) ≡ max (largest xs) x

@@ -11,9 +11,10 @@ use Rattle.sublist_area.specs.declared.Child.{Child}
 use Rattle.sublist_area.specs.declared.Child.the-variants.{Node, Missing, Damaged}
 use Rattle.sublist_area.specs.declared.Placed.{Placed}
 use Rattle.sublist_area.specs.declared.Placed.the-variants.{At, Full, Broken}
-use Rattle.sublist_area.specs.Words.{word, hashIs, outside, seek, literalChild, starChild, childOf}
+use Rattle.sublist_area.specs.Words.{Met, word, byHash, outside, seek, literalChild, starChild, childOf}
 use Rattle.sublist_area.specs.Growing.{placed, childOrNew}
 use Rattle.sublist_trie.proofs.Runs.{pick-ind}
+use Rattle.sublist_area.proofs.Turns.{met-ind}
 
 abbrev NodeBelow : ℕ → Child → Type 0
 NodeBelow n (Node j) = j < n
@@ -26,14 +27,14 @@ PlaceFits words Full = Unit {0}
 PlaceFits words Broken = Unit {0}
 
 module _ (a : List ℕ) (n : ℕ) where
-  seek-node : (h f rest link : ℕ) → NodeBelow n (seek a n h rest f link)
+  seek-node : (test : ℕ → Met) (f rest link : ℕ) → NodeBelow n (seek test a n rest f link)
   unfolding seek
-  seek-node h zero rest link = pick-ind (NodeBelow n) (eqb (getD a link 0) 0) (λ _. tt) (λ _. tt)
-  seek-node h (suc f) rest link =
+  seek-node test zero rest link = pick-ind (NodeBelow n) (eqb (getD a link 0) 0) (λ _. tt) (λ _. tt)
+  seek-node test (suc f) rest link =
       pick-ind (NodeBelow n) (eqb (getD a link 0) 0) (λ _. tt)
       (λ _. pick-ind (NodeBelow n) (leb n (getD a link 0)) (λ _. tt)
-      (λ t. pick-ind (NodeBelow n) (hashIs a (getD a link 0) h) (λ _. leb-false n (getD a link 0) t)
-      (λ _. seek-node h f (rest / 4) (getD a link 0 * 16 + 8 + rest % 4))))
+      (λ t. met-ind (NodeBelow n) (test (getD a link 0)) (λ _. leb-false n (getD a link 0) t)
+      (λ _. seek-node test f (rest / 4) (getD a link 0 * 16 + 8 + rest % 4)) (λ _. tt)))
 
   child-below : (i : ℕ) (k : Key ℕ) → NodeBelow n (childOf a n i k)
   unfolding starChild literalChild
@@ -41,7 +42,7 @@ module _ (a : List ℕ) (n : ℕ) where
       pick-ind (NodeBelow n) (outside a n i) (λ _. tt)
       (λ _. pick-ind (NodeBelow n) (eqb (word a i 3) 0) (λ _. tt)
       (λ _. pick-ind (NodeBelow n) (leb n (word a i 3)) (λ _. tt) (λ t. leb-false n (word a i 3) t)))
-  child-below i (lit h) = pick-ind (NodeBelow n) (outside a n i) (λ _. tt) (λ _. seek-node h n h (i * 16 + 2))
+  child-below i (lit h) = pick-ind (NodeBelow n) (outside a n i) (λ _. tt) (λ _. seek-node (byHash a h) n h (i * 16 + 2))
 
   placed-fits : (c : Child) (i : ℕ) (k : Key ℕ) → n * 16 ≤ length a → NodeBelow n c → PlaceFits (length a) (placed c a n i k .0)
   unfolding placed

@@ -17,7 +17,8 @@ use Rattle.sublist_area.specs.Words.{word}
 use Rattle.sublist_walk.specs.Walk.{part}
 use Rattle.sublist.specs.Passes.{End, end, startWord, countWord, laid, Filling, filling, filled}
 use Rattle.sublist.proofs.Laying.{before, before-suc, before-mono, length-laid, laid-at}
-use Rattle.sublist.proofs.Filling.{nodesIn, targetsIn, nodeOf, endIs, hit, countEnds, pickEnds, Ranges, Result, filled-at, length-filled, length-targets}
+use Rattle.sublist.proofs.Filling.{nodeOf, endIs, hit, countEnds, pickEnds, Ranges, Result, filled-at, length-filled, length-targets}
+use Rattle.sublist.specs.Passes.{nodeWordsIn, targetWordsIn}
 
 -- each end is counted once, at its node
 hits : (e : End) (i : ℕ) → hit e i false + hit e i true ≡ pick (eqb (nodeOf e) i) 1 0
@@ -134,10 +135,10 @@ module _ (n : ℕ) (a ts : List ℕ) (es : List End) (xs : List ℕ) (len : leng
 
   -- the words of nodes and of targets after both passes
   abbrev pub finalNodes : List ℕ
-  finalNodes = nodesIn (filled (filling (laid a 0 n 0) ts) es xs)
+  finalNodes = nodeWordsIn (filled (filling (laid a 0 n 0) ts) es xs)
 
   abbrev pub finalTargets : List ℕ
-  finalTargets = targetsIn (filled (filling (laid a 0 n 0) ts) es xs)
+  finalTargets = targetWordsIn (filled (filling (laid a 0 n 0) ts) es xs)
 
   few-each : (i : ℕ) (b : Bool) → i < n → size i b < 4294967296
   few-each i b l = omega (arith, in-total i b l, few)

@@ -14,6 +14,7 @@ use Rattle.sublist_tree.proofs.Fork.{Within}
 use Rattle.sublist_tree.proofs.Bytes.{eqb-sound, eqb-whole}
 use Rattle.sublist_trie.specs.Trie.{Trie, size, parentOf, child, built, leftAt, run}
 use Rattle.sublist_trie.specs.Pass.{Told, valueOf, put, tell}
+use Rattle.sublist_trie.proofs.Children.{built-for}
 use Rattle.sublist_trie.proofs.Runs.{child-of}
 use Rattle.sublist_trie.proofs.Growth.{good-built}
 use Rattle.sublist_trie.proofs.Worst.{put-same, put-other, Settled, settled-tell, settled-value, value-bound}
@@ -61,12 +62,12 @@ module _ (d : ℕ) (ls : List (Line ℕ)) (within : Within d ls) (few : max 1 (l
   abbrev Tells : List ℕ → ℕ → Told → Type 0
   Tells a m s = (p : ℕ) → p ≤ m → (word a p 4 ≡ s .0 p) × (word a p 6 ≡ s .1 p)
 
-  value : (a : List ℕ) (m : ℕ) (s : Told) → Settled eqb d ls m s → m < size T → Tells a m s → nodeWorst a m ≡ valueOf s m
+  value : (a : List ℕ) (m : ℕ) (s : Told) → Settled eqb d ls (built eqb ls) m s → m < size T → Tells a m s → nodeWorst a m ≡ valueOf s m
   unfolding valueOf
-  value a m s ok l t = omega (arith, t m (omega arith) .0, t m (omega arith) .1, value-bound eqb eqb-sound eqb-whole d ls within m s ok l, few)
+  value a m s ok l t = omega (arith, t m (omega arith) .0, t m (omega arith) .1, value-bound eqb eqb-sound eqb-whole d ls (built eqb ls) (built-for eqb eqb-sound eqb-whole ls) within m s ok l, few)
 
   -- one node tells its parent
-  told-tells : (a : List ℕ) (m : ℕ) (s : Told) → Settled eqb d ls (suc m) s → suc m < size T → Agrees a → Tells a (suc m) s
+  told-tells : (a : List ℕ) (m : ℕ) (s : Told) → Settled eqb d ls (built eqb ls) (suc m) s → suc m < size T → Agrees a → Tells a (suc m) s
       → Tells (told a (suc m) (word a (suc m) 12)) m (tell eqb T (suc m) s)
   unfolding told tell
   told-tells a m s ok l agrees tells q lq =
@@ -111,11 +112,11 @@ module _ (d : ℕ) (ls : List (Line ℕ)) (within : Within d ls) (few : max 1 (l
       )
 
   -- the root's worst case
-  pub settle-worst : (m : ℕ) (a : List ℕ) (s : Told) → Settled eqb d ls m s → m < size T → Agrees a → Tells a m s → nodeWorst (settled a m) 0 ≡ worst eqb d (leftAt eqb ls (run T 0))
+  pub settle-worst : (m : ℕ) (a : List ℕ) (s : Told) → Settled eqb d ls (built eqb ls) m s → m < size T → Agrees a → Tells a m s → nodeWorst (settled a m) 0 ≡ worst eqb d (leftAt eqb ls (run T 0))
   unfolding settled
-  settle-worst zero a s ok l agrees tells = value a 0 s ok l tells ∙ settled-value eqb eqb-sound eqb-whole d ls within 0 s ok l
+  settle-worst zero a s ok l agrees tells = value a 0 s ok l tells ∙ settled-value eqb eqb-sound eqb-whole d ls (built eqb ls) (built-for eqb eqb-sound eqb-whole ls) within 0 s ok l
   settle-worst (suc m) a s ok l agrees tells =
-      settle-worst m (told a (suc m) (word a (suc m) 12)) (tell eqb T (suc m) s) (settled-tell eqb eqb-sound eqb-whole d ls within m s ok l) (omega arith) (
+      settle-worst m (told a (suc m) (word a (suc m) 12)) (tell eqb T (suc m) s) (settled-tell eqb eqb-sound eqb-whole d ls (built eqb ls) (built-for eqb eqb-sound eqb-whole ls) within m s ok l) (omega arith) (
         omega (arith, length-told a (suc m) (word a (suc m) 12)),
         (λ i h. told-word a (suc m) (word a (suc m) 12) i 12 (omega arith) (λ e. omega arith) (λ e. omega arith) ∙ agrees .1 i h),
         (λ i h. told-word a (suc m) (word a (suc m) 12) i 3 (omega arith) (λ e. omega arith) (λ e. omega arith) ∙ agrees .2 i h),

@@ -12,15 +12,16 @@ use Rattle.subject.specs.Answers.{Answer, answer}
 use Rattle.sublist_area.specs.declared.Placed.{Placed}
 use Rattle.sublist_area.specs.declared.Placed.the-variants.{At, Full, Broken}
 use Rattle.sublist_area.specs.Growing.{planted, rooted}
-use Rattle.sublist.specs.declared.Entry.{Entry}
+use Rattle.sublist_entries.specs.declared.Entry.{Entry}
 use Rattle.sublist.specs.declared.SublistError.{SublistError}
 use Rattle.sublist.specs.declared.EntryCheck.{EntryCheck}
 use Rattle.sublist.specs.declared.EntryCheck.the-variants.{Sound, Bad}
 use Rattle.sublist.specs.Answers.{buildRefusal}
-use Rattle.sublist.specs.Entries.{linesOf}
+use Rattle.sublist_entries.specs.Entries.{linesOf}
 use Rattle.sublist.specs.Building.{badEntries, needed}
 use Rattle.sublist.specs.Passes.{End, Growth, growth, stopped, linesIn, settled, laid, Filling, filling, filled}
-use Rattle.sublist.specs.Core.{checked, allIn, rootWorst, targetsOf, answerBy, leftBy, builtBy, leavesBy}
+use Rattle.sublist.specs.Leaving.{BuildOutcome}
+use Rattle.sublist.specs.Core.{checked, allIn, rootWorst, targetsOf, finishBy, builtBy, leavesBy, coreInto}
 
 -- the root is written where there is room for it
 module _ (a : List ℕ) (r : Placed) (b : List ℕ) (e : (r, b) ≡ rooted a) where
@@ -57,38 +58,37 @@ module _ (es : List Entry) (store a : List ℕ) where
 
 -- behind the first pass
 module _ (count need generation n : ℕ) (a xs ts : List ℕ) (ends : List End) where
-  pub short-targets : length ts < count
-      → (answer 15 [] ≡ answerBy count need (length ts) generation (growth n a ends)) × (filling a ts ≡ leftBy count xs ts (growth n a ends))
-  short-targets h = (rw (lt-ltb (length ts) count h), rw (lt-ltb (length ts) count h))
+  abbrev Finishes : Answer → Filling → Type 0
+  Finishes r f = record { says = r; areas = f } ≡ finishBy count need xs ts generation (growth n a ends)
+
+  pub short-targets : length ts < count → Finishes (answer 15 []) (filling a ts)
+  short-targets h = rw (lt-ltb (length ts) count h)
 
   module _ (h : count ≤ length ts) (b : List ℕ) (s : b ≡ settled a (n - 1)) (w : ℕ) (v : w ≡ rootWorst b) where
-    pub over-limit : 1024 < w
-        → (answer 16 (w ∷ 1024 ∷ []) ≡ answerBy count need (length ts) generation (growth n a ends)) × (filling b ts ≡ leftBy count xs ts (growth n a ends))
-    over-limit l =
-        let k = lt-ltb 1024 w l in
-        let u : rootWorst (settled a (n - 1)) ≡ w = rw (v, s) in
-        (rw (le-ltb (length ts) count h, u, k), rw (le-ltb (length ts) count h, u, k, s))
+    worst-is : rootWorst (settled a (n - 1)) ≡ w
+    worst-is = rw (v, s)
 
-    pub within-limit : w ≤ 1024 → (f : Filling) → f ≡ filled (filling (laid b 0 n 0) ts) ends xs
-        → (answer 0 (n ∷ w ∷ generation ∷ []) ≡ answerBy count need (length ts) generation (growth n a ends)) × (f ≡ leftBy count xs ts (growth n a ends))
-    within-limit l f g =
-        let k = le-ltb 1024 w l in
-        let u : rootWorst (settled a (n - 1)) ≡ w = rw (v, s) in
-        (rw (le-ltb (length ts) count h, u, k), rw (le-ltb (length ts) count h, u, k, g, s))
+    pub over-limit : 1024 < w → Finishes (answer 16 (w ∷ 1024 ∷ [])) (filling b ts)
+    over-limit l = rw (le-ltb (length ts) count h, worst-is, lt-ltb 1024 w l, s)
+
+    pub within-limit : w ≤ 1024 → (f : Filling) → f ≡ filled (filling (laid b 0 n 0) ts) ends xs → Finishes (answer 0 (n ∷ w ∷ generation ∷ [])) f
+    within-limit l f g = rw (le-ltb (length ts) count h, worst-is, le-ltb 1024 w l, g, s)
 
 -- the whole
 module _ (count : ℕ) (es : List Entry) (store a ts : List ℕ) (generation : ℕ) where
-  pub too-many : 2048 < count → (answer 10 [] ≡ builtBy count es store a (length ts) generation) × (filling a ts ≡ leavesBy count es store a ts)
+  abbrev Ends : Answer → Filling → Type 0
+  Ends r f = record { says = r; areas = f } ≡ coreInto count es store a ts generation
+
+  pub too-many : 2048 < count → Ends (answer 10 []) (filling a ts)
   unfolding builtBy leavesBy
-  too-many h = (rw (lt-ltb 2048 count h), rw (lt-ltb 2048 count h))
+  too-many h = rw (lt-ltb 2048 count h)
 
   module _ (h : count ≤ 2048) (c : EntryCheck) (q : checked c ≡ badEntries store 0 es) where
-    pub bad-entry : (e : SublistError) → c ≡ Bad e → (buildRefusal e ≡ builtBy count es store a (length ts) generation) × (filling a ts ≡ leavesBy count es store a ts)
+    pub bad-entry : (e : SublistError) → c ≡ Bad e → Ends (buildRefusal e) (filling a ts)
     unfolding builtBy leavesBy
-    bad-entry e p = (rw (le-ltb 2048 count h, ← q, p), rw (le-ltb 2048 count h, ← q, p))
+    bad-entry e p = rw (le-ltb 2048 count h, ← q, p)
 
-    module _ (p : c ≡ Sound) (g : Growth) (s : g ≡ allIn es store a) where
-      pub all-sound : (r : Answer) (f : Filling) → r ≡ answerBy count (needed store es) (length ts) generation g → f ≡ leftBy count (targetsOf es) ts g
-          → (r ≡ builtBy count es store a (length ts) generation) × (f ≡ leavesBy count es store a ts)
-      unfolding builtBy leavesBy
-      all-sound r f d k = (d ∙ rw (le-ltb 2048 count h, ← q, p, s), k ∙ rw (le-ltb 2048 count h, ← q, p, s))
+    pub all-sound : c ≡ Sound → (g : Growth) → g ≡ allIn es store a → (o : BuildOutcome) → o ≡ finishBy count (needed store es) (targetsOf es) ts generation g
+        → o ≡ coreInto count es store a ts generation
+    unfolding builtBy leavesBy
+    all-sound p g s o k = k ∙ rw (le-ltb 2048 count h, ← q, p, s)

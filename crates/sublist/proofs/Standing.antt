@@ -15,24 +15,24 @@ use Rattle.sublist_tree.proofs.Bytes.{eqb-sound, eqb-whole}
 use Rattle.sublist_trie.specs.Trie.{Trie, root, size, run, parentOf, child, insT, built, leftAt}
 use Rattle.sublist_trie.specs.Ends.{LineEnd, lineEnd, endsFrom, endsOf, targetsAt}
 use Rattle.sublist_trie.specs.Pass.{untold}
+use Rattle.sublist_trie.proofs.Children.{built-for}
 use Rattle.sublist_trie.proofs.Runs.{size-pos, run-root, run-child, child-less}
 use Rattle.sublist_trie.proofs.Growth.{good-built}
-use Rattle.sublist_trie.proofs.Children.{child-none, child-some}
-use Rattle.sublist_trie.proofs.Targets.{targets-at}
+use Rattle.sublist_trie.proofs.For.{child-none, child-some}
+use Rattle.sublist_trie.proofs.Targets.{targets-at, built-ends}
 use Rattle.sublist_trie.proofs.Worst.{settled-start}
 use Rattle.sublist_area.specs.declared.Child.{Child}
 use Rattle.sublist_area.specs.declared.Child.the-variants.{Node, Missing, Damaged}
 use Rattle.sublist_area.specs.Words.{word, childOf}
 use Rattle.sublist_area.specs.Growing.{planted}
-use Rattle.sublist_area.proofs.Rep.{Rep}
 use Rattle.sublist_area.proofs.Stores.{planted-zero, planted-behind, length-planted}
-use Rattle.sublist_area.proofs.Step.{rep-kept, rep-root}
-use Rattle.sublist_area.proofs.Lookup.{star-word, lookup-there, lookup-none}
+use Rattle.sublist_area.proofs.Hashes.{Rep, rep-kept, rep-root, star-word, lookup-there, lookup-none}
 use Rattle.sublist_walk.specs.Walk.{part}
 use Rattle.sublist_walk.specs.Holds.{Small, Leads, Says, Holds}
 use Rattle.sublist.specs.Passes.{End, end, startWord, countWord, nodeWorst, settled, laid, Filling, filling, filled}
 use Rattle.sublist.proofs.Laying.{length-laid, laid-word}
-use Rattle.sublist.proofs.Filling.{nodesIn, targetsIn, nodeOf, countEnds, pickEnds, length-filled, length-targets, filled-word}
+use Rattle.sublist.proofs.Filling.{nodeOf, countEnds, pickEnds, length-filled, length-targets, filled-word}
+use Rattle.sublist.specs.Passes.{nodeWordsIn, targetWordsIn}
 use Rattle.sublist.proofs.Ranges.{finalNodes, finalTargets, range-fits, range-says, targets-left}
 use Rattle.sublist.proofs.Settling.{settled-word, length-settled, settle-worst}
 use Rattle.sublist.proofs.Entering.{toEnd, Entered}
@@ -84,7 +84,7 @@ module _ (ls : List (Line ℕ)) (b : List ℕ) (ok : Entered b (built eqb ls) (m
   pub worst-found : (d : ℕ) → Within d ls → max 1 (length ls) < 4294967296 → nodeWorst (settled b (size T - 1)) 0 ≡ worst eqb d ls
   unfolding untold leftAt
   worst-found d within few =
-      settle-worst d ls within few (size T - 1) b untold (settled-start eqb eqb-sound eqb-whole d ls) (omega (arith, size-pos T))
+      settle-worst d ls within few (size T - 1) b untold (settled-start eqb eqb-sound eqb-whole d ls (built eqb ls) (built-for eqb eqb-sound eqb-whole ls)) (omega (arith, size-pos T))
       (ok .rep .room, ok .rep .parents, (λ i l. star-word b T (ok .rep) i l)) (λ p l. (ok .starts p false (omega (arith, size-pos T)), ok .starts p true (omega (arith, size-pos T))))
       ∙ ap (λ r. worst eqb d (leftAt eqb ls r)) (run-root T)
 
@@ -116,10 +116,10 @@ module _ (ls : List (Line ℕ)) (b : List ℕ) (ok : Entered b (built eqb ls) (m
   module _ (ts : List ℕ) (wide : length es ≤ length ts) (few : length es < 4294967296) where
     -- the words of nodes and of targets at the end
     abbrev pub nodesAfter : List ℕ
-    nodesAfter = nodesIn (filled (filling (laid a 0 (size T) 0) ts) es xs)
+    nodesAfter = nodeWordsIn (filled (filling (laid a 0 (size T) 0) ts) es xs)
 
     abbrev pub targetsAfter : List ℕ
-    targetsAfter = targetsIn (filled (filling (laid a 0 (size T) 0) ts) es xs)
+    targetsAfter = targetWordsIn (filled (filling (laid a 0 (size T) 0) ts) es xs)
 
     last-rep : Rep nodesAfter T
     last-rep =
@@ -136,16 +136,16 @@ module _ (ls : List (Line ℕ)) (b : List ℕ) (ok : Entered b (built eqb ls) (m
     says : (i : ℕ) (c : Bool) → i < size T → part targetsAfter (word nodesAfter i (startWord c)) (word nodesAfter i (countWord c)) ≡ ends c (leftAt eqb ls (run T i))
     says i c l =
         range-says (size T) a ts es xs len (ok .inside) (settled-rep .room) wide few count-exact count-tails i c l
-        ∙ pick-targets i c (endsOf eqb ls) ∙ targets-at eqb eqb-sound eqb-whole ls i c l
+        ∙ pick-targets i c (endsOf eqb ls) ∙ targets-at eqb eqb-sound eqb-whole ls (built eqb ls) (built-for eqb eqb-sound eqb-whole ls) (endsOf eqb ls) (built-ends eqb eqb-sound eqb-whole ls) i c l
 
     leads : (i : ℕ) (k : Key ℕ) → i < size T → Leads (size T) (run T) (run T i) k (below eqb k (leftAt eqb ls (run T i))) (childOf nodesAfter (size T) i k)
     leads i k l = go (ℕ-discrete (child eqb T i k) 0)
       where
         go : Dec (child eqb T i k ≡ 0) → Leads (size T) (run T) (run T i) k (below eqb k (leftAt eqb ls (run T i))) (childOf nodesAfter (size T) i k)
-        go (yes z) = rw (lookup-none nodesAfter T last-rep i l k z) (child-none eqb eqb-sound eqb-whole ls i k l z)
+        go (yes z) = rw (lookup-none nodesAfter T last-rep i l k z) (child-none eqb eqb-sound eqb-whole ls (built eqb ls) (built-for eqb eqb-sound eqb-whole ls) i k l z)
         go (no n) =
             rw (lookup-there nodesAfter T last-rep i l k n)
-            (child-less eqb T i k, run-child eqb eqb-sound eqb-whole T i k (good-built eqb eqb-sound eqb-whole ls) n, child-some eqb eqb-sound eqb-whole ls i k n .0)
+            (child-less eqb T i k, run-child eqb eqb-sound eqb-whole T i k (good-built eqb eqb-sound eqb-whole ls) n, child-some eqb eqb-sound eqb-whole ls (built eqb ls) (built-for eqb eqb-sound eqb-whole ls) i k n .0)
 
     -- the area reads back as the tree of the lines
     pub stands : Holds nodesAfter (size T) (length es) targetsAfter ls

@@ -8,7 +8,7 @@ use lib.ListN.{length, getD, drop, set}
 use borrow.Author.Tests.{lt-ltb, le-ltb, eq-eqb, ne-eqb}
 use Rattle.sublist_area.specs.Words.{word}
 use Rattle.sublist.specs.Passes.{nodeWorst, told, settled, laidAt, laid, Filling, filledBy, filled}
-use Rattle.sublist.specs.Flat.{unflat}
+use Rattle.sublist_entries.specs.Numbers.{unflat}
 use Rattle.sublist.specs.Core.{endOf, endsOf, targetsOf}
 use Rattle.sublist.proofs.Listed.{unflat-on, ends-on, ends-end}
 

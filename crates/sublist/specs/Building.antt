@@ -10,9 +10,12 @@ use Rattle.subject.specs.Answers.{Answer, answer, unless}
 use Rattle.subject.specs.Grammar.{grammar, firstOf}
 use Rattle.sublist_tree.specs.Tree.{Line, worst}
 use Rattle.sublist_tree.specs.Nodes.{nodes}
-use Rattle.sublist.specs.declared.Entry.{Entry}
-use Rattle.sublist.specs.Entries.{textOf, linesOf}
-use Rattle.sublist.specs.Answers.{held}
+use Rattle.sublist_entries.specs.declared.Entry.{Entry}
+use Rattle.sublist_entries.specs.Entries.{textOf, linesOf}
+
+-- 13 holds a refusal 1 to 9: its number, then its values
+abbrev pub held : Answer → Answer
+held (answer number values) = answer 13 (number ∷ values)
 
 -- 13: the refusal of an entry's text
 abbrev pub invalid : Answer → Option Answer

@@ -14,7 +14,7 @@ use Rattle.sublist_area.specs.declared.Placed.{Placed}
 use Rattle.sublist_area.specs.declared.Placed.the-variants.{At, Full, Broken}
 use Rattle.sublist_area.specs.Words.{word}
 use Rattle.sublist_area.specs.Growing.{grown, planted}
-use Rattle.sublist.specs.declared.Entry.{Entry}
+use Rattle.sublist_entries.specs.declared.Entry.{Entry}
 use Rattle.sublist.specs.declared.EntryCheck.{EntryCheck}
 use Rattle.sublist.specs.declared.EntryCheck.the-variants.{Sound, Bad}
 use Rattle.sublist.specs.declared.Ended.{Ended}
@@ -22,8 +22,9 @@ use Rattle.sublist.specs.declared.Ended.the-variants as ended
 use Rattle.sublist.specs.declared.Grown.{Grown}
 use Rattle.sublist.specs.declared.Grown.the-variants as all
 use Rattle.sublist.specs.Answers.{buildRefusal}
-use Rattle.sublist.specs.Entries.{linesOf}
+use Rattle.sublist_entries.specs.Entries.{linesOf}
 use Rattle.sublist.specs.Building.{badEntries, needed}
+use Rattle.sublist.specs.Leaving.{BuildOutcome}
 use Rattle.sublist.specs.Passes.{End, end, Growth, growth, stopped, linesIn, settled, laid, Filling, filling, filled}
 
 -- the refusal of an entry, if there is one
@@ -111,6 +112,11 @@ leftBy count xs ts (growth n a ends) =
     (pick (ltb 1024 (rootWorst (settled a (n - 1)))) (filling (settled a (n - 1)) ts)
     (filled (filling (laid (settled a (n - 1)) 0 n 0) ts) ends xs))
 
+-- both, of the targets xs put into the words ts
+abbrev pub finishBy : ℕ → ℕ → List ℕ → List ℕ → ℕ → Growth → BuildOutcome
+finishBy count need xs ts generation g =
+    record { says = answerBy count need (length ts) generation g; areas = leftBy count xs ts g }
+
 -- the first if an entry is refused, else the second
 abbrev pub ifBad : Option Answer → Filling → Filling → Filling
 ifBad (some r) before after = before
@@ -126,3 +132,8 @@ builtBy count es store a places generation =
 unfoldable pub leavesBy : ℕ → List Entry → List ℕ → List ℕ → List ℕ → Filling
 leavesBy count es store a ts =
     pick (ltb 2048 count) (filling a ts) (ifBad (badEntries store 0 es) (filling a ts) (leftBy count (targetsOf es) ts (allIn es store a)))
+
+-- both
+abbrev pub coreInto : ℕ → List Entry → List ℕ → List ℕ → List ℕ → ℕ → BuildOutcome
+coreInto count es store a ts generation =
+    record { says = builtBy count es store a (length ts) generation; areas = leavesBy count es store a ts }

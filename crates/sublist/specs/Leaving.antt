@@ -1,5 +1,5 @@
--- What build leaves in the words lent for nodes and targets.
-use Prim.Native.Nat.{ℕ, zero, suc, _-_}
+-- What build answers, and what it leaves in the words lent for nodes and targets.
+use Prim.Native.Nat.{ℕ, zero, suc, _-_, _/_}
 use mathlib.Core.Bool.{Bool, true, false}
 use mathlib.Core.List.{List, [], _∷_, map}
 use mathlib.Core.Option.{Option, none, some}
@@ -8,9 +8,9 @@ use lib.ListN.{length}
 use Rattle.subject.specs.Choice.{pick}
 use Rattle.subject.specs.Answers.{Answer}
 use Rattle.sublist_area.specs.Growing.{planted}
-use Rattle.sublist.specs.declared.Entry.{Entry}
-use Rattle.sublist.specs.Entries.{targetWord, linesOf}
-use Rattle.sublist.specs.Building.{badEntries, worstOf}
+use Rattle.sublist_entries.specs.declared.Entry.{Entry}
+use Rattle.sublist_entries.specs.Entries.{targetWord, linesOf}
+use Rattle.sublist.specs.Building.{badEntries, worstOf, buildSays}
 use Rattle.sublist.specs.Passes.{Growth, growth, stopped, linesIn, settled, laid, Filling, filling, filled}
 
 -- a refused build leaves the targets; an accepted one the last three passes
@@ -30,3 +30,13 @@ started es store a ts none =
 -- the entries, the text store, the words of nodes and of targets
 unfoldable pub buildLeaves : List Entry → List ℕ → List ℕ → List ℕ → Filling
 buildLeaves es store a ts = pick (ltb 2048 (length es)) (filling a ts) (started es store a ts (badEntries store 0 es))
+
+-- a build: its answer, and the words of nodes and of targets afterwards
+pub record BuildOutcome : Type 0 where
+  pub says : Answer
+  pub areas : Filling
+
+-- `build`, and `build_from_numbers` of the entries that the numbers hold
+unfoldable pub buildInto : List Entry → List ℕ → List ℕ → List ℕ → ℕ → BuildOutcome
+buildInto es store a ts generation =
+    record { says = buildSays es store (length a / 16) (length ts) generation; areas = buildLeaves es store a ts }

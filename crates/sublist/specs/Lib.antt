@@ -1,12 +1,9 @@
--- The list of entries, and the table that a build makes of it.
-pub mod Entries
-pub mod Answers
-pub mod Inserting
+-- The table that a build makes of a list of entries.
 pub mod Building
 pub mod Passes
 pub mod Leaving
+pub mod Answers
+-- Only private contracts cite these.
 pub mod Flat
-pub mod Placing
 pub mod Core
 pub mod Sharing
-pub mod Numbers

@@ -75,6 +75,13 @@ laid a i (suc left) from = laid (laidAt a i from) (suc i) left ((from + word a i
 pub data Filling : Type 0 where
   filling : List ℕ → List ℕ → Filling
 
+-- the words of nodes and those of targets
+abbrev pub nodeWordsIn : Filling → List ℕ
+nodeWordsIn (filling a ts) = a
+
+abbrev pub targetWordsIn : Filling → List ℕ
+targetWordsIn (filling a ts) = ts
+
 unfoldable pub filledBy : Filling → End → ℕ → Filling
 filledBy (filling a ts) (end j tail) target =
     filling (counted a j tail) (set ts (word a j (startWord tail) + word a j (countWord tail)) target)

@@ -8,8 +8,8 @@ use Rattle.subject.specs.Text.{tokens, isStar, isTail}
 use Rattle.subject.specs.Fnv.{fnv}
 use Rattle.sublist_tree.specs.Lists.{largest}
 use Rattle.sublist_tree.specs.Tree.{Key, star, lit, Line, line, lineOf, keyIs}
-use Rattle.sublist.specs.declared.Entry.{Entry}
-use Rattle.sublist.specs.Entries.{textOf}
+use Rattle.sublist_entries.specs.declared.Entry.{Entry}
+use Rattle.sublist_entries.specs.Entries.{textOf}
 
 -- the keys of a line
 abbrev pub keysOf : {K : Type 0} → Line K → List (Key K)

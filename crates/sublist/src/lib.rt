@@ -1,4 +1,4 @@
-// The list of entries, and the table that a build makes of it. A port of IronBus's SublistBuilder.
+// The table that a build makes of a list of entries. A port of IronBus's SublistBuilder, its `build`.
 ghost use mathlib.Core.Path.{_≡_};
 ghost use mathlib.Core.List.{[], _++_};
 ghost use mathlib.Core.Option.{none};
@@ -10,17 +10,15 @@ ghost use Rattle.subject.specs.Fnv.{fnv};
 ghost use Rattle.sublist_tree.specs.Tree.{lineOf};
 ghost use Rattle.sublist_area.specs.Words.{word};
 ghost use Rattle.sublist_area.specs.Growing.{childOrNew};
-ghost use Rattle.sublist.specs.Answers.{buildAnswer, insertAnswer};
-ghost use Rattle.sublist.specs.Entries.{linesOf};
-ghost use Rattle.sublist.specs.Building.{invalid, badEntry, badEntries, needed, buildSays};
+ghost use Rattle.sublist.specs.Answers.{built};
+ghost use Rattle.sublist_entries.specs.Entries.{linesOf};
+ghost use Rattle.sublist.specs.Building.{invalid, badEntry, badEntries, needed};
 ghost use Rattle.sublist.specs.Passes.{end, growth, counted, countWord, startWord, lineIn, linesIn, nodeWorst, told, settled, laidAt, laid, filling, filledBy, filled};
-ghost use Rattle.sublist.specs.Flat.{unflat, flat, putEntry};
+ghost use Rattle.sublist.specs.Flat.{flat};
+ghost use Rattle.sublist_entries.specs.Numbers.{unflat, entriesIn};
 ghost use Rattle.sublist.specs.Sharing.{sameKey, sharedBy, longest};
-ghost use Rattle.sublist.specs.Core.{checked, placeOf, tokenKey, runIn, endedAs, EndFits, endOf, endsOf, EndBelow, grownAs, AllFit, allIn, rootWorst, targetsOf, answerBy, leftBy, builtBy, leavesBy};
-ghost use Rattle.sublist.specs.Inserting.{insertSays, entriesAfter, storeAfter, afterAnswer, put};
-ghost use Rattle.sublist.specs.Leaving.{buildLeaves};
-ghost use Rattle.sublist.specs.Numbers.{entriesIn, numbersAfter};
-ghost use Rattle.sublist.specs.Placing.{turnedDown, decided, roomSays};
+ghost use Rattle.sublist.specs.Core.{checked, placeOf, tokenKey, runIn, endedAs, EndFits, endOf, endsOf, EndBelow, grownAs, AllFit, allIn, rootWorst, targetsOf, finishBy, coreInto};
+ghost use Rattle.sublist.specs.Leaving.{buildInto};
 use subject::Parsed;
 use subject::SubjectError;
 use subject::find_dot;
@@ -29,35 +27,15 @@ use subject::is_tail;
 use subject::same_bytes;
 use subject::token_hash;
 use sublist_area::Placed;
+use sublist_entries::ENTRY_NUMBERS;
+use sublist_entries::Entry;
+use sublist_entries::MAX_ENTRIES;
+use sublist_entries::put_entry;
 use sublist_walk::MAX_FORK_FRONTIER;
-
-// The most entries that a list may have.
-pub const MAX_ENTRIES: usize = 2048;
-
-// A pattern's place in the text store, and its target.
-pub struct Entry {
-    pub start: usize,
-    pub length: usize,
-    pub target: u32,
-}
-
-// How many entries of a lent list and how many bytes of its text store are in use.
-pub struct ListState {
-    pub entries: usize,
-    pub used: usize,
-}
-
-// An insert gives the list's new state, or a refusal.
-pub enum Inserted {
-    Done(ListState),
-    Invalid(SubjectError),
-    EntriesFull,
-    TextFull,
-}
 
 // Why a build is refused: 01's numbers 10 and 12 to 16, in order.
 pub enum SublistError {
-    TooManyEntries,
+    EntriesFull,
     BadEntry(usize),
     InvalidPattern(SubjectError),
     NodesFull(usize),
@@ -91,105 +69,6 @@ enum Ended {
 enum Grown {
     Nodes(usize),
     Full,
-}
-
-// What an insert decides: whether an entry is written, where, which one, and the answer.
-struct Placing {
-    taken: bool,
-    at: usize,
-    entry: Entry,
-    answer: Inserted,
-}
-
-// What is left of so many bytes: nothing if those in use exceed them.
-fn bytes_left(bytes: usize, used: usize) -> usize
-    ensures { λ r. ⌜ r ≡ bytes - used ⌝ }
-{
-    if used < bytes { bytes - used } else { 0 }
-}
-
-// A text is copied to its place in the store.
-fn paste(store: &mut [u8], at: usize, text: &[u8])
-    requires { ⌜ length (now text) ≤ length (now store) - at ⌝ }
-    ensures { λ _. ⌜ now (store .exit) ≡ put (now (store .entry)) at (now (text .entry)) ⌝ }
-{
-    let mut i = 0;
-    while i < text.len() {
-        store[at + i] = text[i];
-        i += 1;
-    }
-}
-
-// A refusal: no entry is written.
-fn turn_down(answer: Inserted) -> Placing
-    ensures { λ r. ⌜ r ≡ turnedDown answer ⌝ }
-{
-    Placing {
-        taken: false,
-        at: 0,
-        entry: Entry {
-            start: 0,
-            length: 0,
-            target: 0,
-        },
-        answer,
-    }
-}
-
-// Rules 10 and 11 for an accepted pattern; its text goes into the store.
-fn place_text(list: ListState, places: usize, store: &mut [u8], text: &[u8], target: u32) -> Placing
-    ensures { λ r. ⌜ (insertAnswer (r .answer) ≡ roomSays list places (length (now (store .entry))) (length (now (text .entry)))) × (r ≡ decided list (length (now (text .entry))) target (r .answer)) × (now (store .exit) ≡ afterAnswer (roomSays list places (length (now (store .entry))) (length (now (text .entry)))) (put (now (store .entry)) (list .used) (now (text .entry))) (now (store .entry))) ⌝ }
-{
-    if MAX_ENTRIES <= list.entries {
-        return turn_down(Inserted::EntriesFull);
-    }
-    if places <= list.entries {
-        return turn_down(Inserted::EntriesFull);
-    }
-    if bytes_left(store.len(), list.used) < text.len() {
-        return turn_down(Inserted::TextFull);
-    }
-    paste(store, list.used, text);
-    Placing {
-        taken: true,
-        at: list.entries,
-        entry: Entry {
-            start: list.used,
-            length: text.len(),
-            target,
-        },
-        answer: Inserted::Done(ListState {
-            entries: list.entries + 1,
-            used: list.used + text.len(),
-        }),
-    }
-}
-
-// Rules 1 to 9, then 10 and 11.
-fn place(list: ListState, places: usize, store: &mut [u8], pattern: &[u8], target: u32) -> Placing
-    ensures { λ r. ⌜ (insertAnswer (r .answer) ≡ insertSays list places (length (now (store .entry))) (now (pattern .entry))) × (r ≡ decided list (length (now (pattern .entry))) target (r .answer)) × (now (store .exit) ≡ afterAnswer (insertSays list places (length (now (store .entry))) (now (pattern .entry))) (put (now (store .entry)) (list .used) (now (pattern .entry))) (now (store .entry))) ⌝ }
-{
-    match subject::parse(pattern) {
-        Parsed::Accepted(_) => place_text(list, places, store, pattern, target),
-        Parsed::Refused(e) => turn_down(Inserted::Invalid(e)),
-    }
-}
-
-// A pattern's text is appended to the store, and its entry to the list. A refusal changes neither.
-pub fn insert(
-    list: ListState,
-    entries: &mut [Entry],
-    store: &mut [u8],
-    pattern: &[u8],
-    target: u32,
-) -> Inserted
-    ensures { λ r. ⌜ (insertAnswer r ≡ insertSays list (length (now (entries .entry))) (length (now (store .entry))) (now (pattern .entry))) × (now (entries .exit) ≡ entriesAfter list (now (entries .entry)) (now (store .entry)) (now (pattern .entry)) target) × (now (store .exit) ≡ storeAfter list (now (entries .entry)) (now (store .entry)) (now (pattern .entry))) ⌝ }
-{
-    let p = place(list, entries.len(), store, pattern, target);
-    if p.taken {
-        entries[p.at] = p.entry;
-    }
-    p.answer
 }
 
 fn wide(x: u32) -> usize
@@ -617,7 +496,10 @@ fn finish(
     generation: u64,
 ) -> Built
     requires { ⌜ (count * 3 ≤ length (now words)) × (count ≤ length (now ends)) × (0 < total) × (total * 16 ≤ length (now area)) × EndBelow count (now ends) (length (now area) / 16) ⌝ }
-    ensures { λ r. ⌜ (buildAnswer r ≡ answerBy count 0 (length (now (targets .entry))) generation (growth total (now (area .entry)) (endsOf count (now (ends .entry))))) × (filling (now (area .exit)) (now (targets .exit)) ≡ leftBy count (targetsOf (unflat count (now (words .entry)))) (now (targets .entry)) (growth total (now (area .entry)) (endsOf count (now (ends .entry))))) ⌝ }
+    ensures { λ r. ⌜
+        built r (now (area .exit)) (now (targets .exit))
+        ≡ finishBy count 0 (targetsOf (unflat count (now (words .entry)))) (now (targets .entry)) generation
+        (growth total (now (area .entry)) (endsOf count (now (ends .entry)))) ⌝ }
 {
     if targets.len() < count {
         return Built::Refused(SublistError::TargetsFull);
@@ -649,10 +531,13 @@ fn build_words(
     generation: u64,
 ) -> Built
     requires { ⌜ (3 * min count 2048 ≤ length (now words)) × (2048 ≤ length (now ends)) ⌝ }
-    ensures { λ r. ⌜ (buildAnswer r ≡ builtBy count (unflat count (now (words .entry))) (now (store .entry)) (now (area .entry)) (length (now (targets .entry))) generation) × (filling (now (area .exit)) (now (targets .exit)) ≡ leavesBy count (unflat count (now (words .entry))) (now (store .entry)) (now (area .entry)) (now (targets .entry))) ⌝ }
+    ensures { λ r. ⌜
+        built r (now (area .exit)) (now (targets .exit))
+        ≡ coreInto count (unflat count (now (words .entry))) (now (store .entry))
+        (now (area .entry)) (now (targets .entry)) generation ⌝ }
 {
     if MAX_ENTRIES < count {
-        return Built::Refused(SublistError::TooManyEntries);
+        return Built::Refused(SublistError::EntriesFull);
     }
     match check_entries(words, count, store) {
         EntryCheck::Bad(e) => Built::Refused(e),
@@ -665,17 +550,6 @@ fn build_words(
             Grown::Nodes(total) => finish(words, count, ends, area, total, targets, generation),
         },
     }
-}
-
-// An entry's numbers are put where those of entry i belong: start, length, target.
-fn put_entry(words: &mut [usize], i: usize, e: Entry)
-    requires { ⌜ 3 * i + 3 ≤ length (now words) ⌝ }
-    ensures { λ _. ⌜ now (words .exit) ≡ putEntry (now (words .entry)) i e ⌝ }
-{
-    let at = 3 * i;
-    words[at] = e.start;
-    words[at + 1] = e.length;
-    words[at + 2] = e.target as usize;
 }
 
 // The numbers of the first n entries, three for each, are put at the start of the words; what lies behind them stays.
@@ -705,71 +579,75 @@ fn build_numbers(
     count: usize,
     words: &mut [usize],
     store: &[u8],
-    nodes: &mut [u32],
-    targets: &mut [u32],
+    node_words: &mut [u32],
+    target_words: &mut [u32],
     generation: u64,
 ) -> Built
     requires { ⌜ 6144 ≤ length (now words) ⌝ }
-    ensures { λ r. ⌜ (buildAnswer r ≡ builtBy count (unflat count (now (words .entry))) (now (store .entry)) (now (nodes .entry)) (length (now (targets .entry))) generation) × (filling (now (nodes .exit)) (now (targets .exit)) ≡ leavesBy count (unflat count (now (words .entry))) (now (store .entry)) (now (nodes .entry)) (now (targets .entry))) ⌝ }
+    ensures { λ r. ⌜
+        built r (now («node_words» .exit)) (now («target_words» .exit))
+        ≡ coreInto count (unflat count (now (words .entry))) (now (store .entry))
+        (now («node_words» .entry)) (now («target_words» .entry)) generation ⌝ }
 {
-    let mut ends = [0usize; 2048];
-    build_words(words, count, &mut ends, store, nodes, targets, generation)
+    let mut ends = [0usize; MAX_ENTRIES];
+    build_words(
+        words,
+        count,
+        &mut ends,
+        store,
+        node_words,
+        target_words,
+        generation,
+    )
 }
 
 // The table of a list of entries, all of it: its nodes and targets go into the words lent for them.
 pub fn build(
     entries: &[Entry],
     store: &[u8],
-    nodes: &mut [u32],
-    targets: &mut [u32],
+    node_words: &mut [u32],
+    target_words: &mut [u32],
     generation: u64,
 ) -> Built
-    ensures { λ r. ⌜ (buildAnswer r ≡ buildSays (now (entries .entry)) (now (store .entry)) (length (now (nodes .entry)) / 16) (length (now (targets .entry))) generation) × (filling (now (nodes .exit)) (now (targets .exit)) ≡ buildLeaves (now (entries .entry)) (now (store .entry)) (now (nodes .entry)) (now (targets .entry))) ⌝ }
+    ensures { λ r. ⌜
+        built r (now («node_words» .exit)) (now («target_words» .exit))
+        ≡ buildInto (now (entries .entry)) (now (store .entry))
+        (now («node_words» .entry)) (now («target_words» .entry)) generation ⌝ }
 {
-    let mut words = [0usize; 6144];
+    let mut words = [0usize; ENTRY_NUMBERS * MAX_ENTRIES];
     let n = least(entries.len());
     unpack(entries, n, &mut words);
-    build_numbers(entries.len(), &mut words, store, nodes, targets, generation)
-}
-
-// The same as `insert`, on a list lent as plain numbers, three an entry: start, length, target.
-pub fn insert_numbers(
-    list: ListState,
-    words: &mut [usize],
-    store: &mut [u8],
-    pattern: &[u8],
-    target: u32,
-) -> Inserted
-    ensures { λ r. ⌜ (insertAnswer r ≡ insertSays list (length (now (words .entry)) / 3) (length (now (store .entry))) (now (pattern .entry))) × (now (words .exit) ≡ numbersAfter list (now (words .entry)) (now (store .entry)) (now (pattern .entry)) target) × (now (store .exit) ≡ storeAfter list (entriesIn (now (words .entry))) (now (store .entry)) (now (pattern .entry))) ⌝ }
-{
-    let p = place(list, words.len() / 3, store, pattern, target);
-    if p.taken {
-        let at = p.at;
-        let entry = p.entry;
-        put_entry(words, at, entry);
-        return p.answer;
-    }
-    p.answer
+    build_numbers(
+        entries.len(),
+        &mut words,
+        store,
+        node_words,
+        target_words,
+        generation,
+    )
 }
 
 // The same as `build`, of a list lent as plain numbers, all whole threes of it.
 pub fn build_from_numbers(
     words: &[usize],
     store: &[u8],
-    nodes: &mut [u32],
-    targets: &mut [u32],
+    node_words: &mut [u32],
+    target_words: &mut [u32],
     generation: u64,
 ) -> Built
-    ensures { λ r. ⌜ (buildAnswer r ≡ buildSays (entriesIn (now (words .entry))) (now (store .entry)) (length (now (nodes .entry)) / 16) (length (now (targets .entry))) generation) × (filling (now (nodes .exit)) (now (targets .exit)) ≡ buildLeaves (entriesIn (now (words .entry))) (now (store .entry)) (now (nodes .entry)) (now (targets .entry))) ⌝ }
+    ensures { λ r. ⌜
+        built r (now («node_words» .exit)) (now («target_words» .exit))
+        ≡ buildInto (entriesIn (now (words .entry))) (now (store .entry))
+        (now («node_words» .entry)) (now («target_words» .entry)) generation ⌝ }
 {
-    let mut ends = [0usize; 2048];
+    let mut ends = [0usize; MAX_ENTRIES];
     build_words(
         words,
-        words.len() / 3,
+        words.len() / ENTRY_NUMBERS,
         &mut ends,
         store,
-        nodes,
-        targets,
+        node_words,
+        target_words,
         generation,
     )
 }

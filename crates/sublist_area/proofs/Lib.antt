@@ -8,3 +8,4 @@ pub mod Lookup
 pub mod Stores
 pub mod Step
 pub mod Grown
+pub mod Hashes

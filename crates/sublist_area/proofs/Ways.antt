@@ -14,7 +14,7 @@ use Rattle.sublist_area.specs.declared.Child.{Child}
 use Rattle.sublist_area.specs.declared.Child.the-variants.{Node, Missing, Damaged}
 use Rattle.sublist_area.specs.declared.Placed.{Placed}
 use Rattle.sublist_area.specs.declared.Placed.the-variants.{At, Full, Broken}
-use Rattle.sublist_area.specs.Words.{word, hashIs, outside, seek, literalChild, starChild}
+use Rattle.sublist_area.specs.Words.{Met, word, hashIs, byHash, outside, seek, literalChild, starChild, sought}
 use Rattle.sublist_area.specs.Growing.{hashOf, added, placed, childOrNew}
 use Rattle.sublist_tree.specs.Tree.{Key, star, lit}
 use Rattle.sublist_area.proofs.Turns.{Below, seek-below, below-missing}
@@ -92,9 +92,13 @@ module _ (a : List ℕ) (n i : ℕ) where
     unfolding literalChild
     literal-beyond l = rw (beyond l)
 
-    pub literal-sought : n ≤ length a / 16 → i < n → seek a n h h n (i * 16 + 2) ≡ literalChild a n i h
+    pub literal-sought : n ≤ length a / 16 → i < n → seek (byHash a h) a n h n (i * 16 + 2) ≡ literalChild a n i h
     unfolding literalChild
     literal-sought l m = rw (inside l m)
+
+  pub sought-in : (test : ℕ → Met) (h : ℕ) → n ≤ length a / 16 → i < n → seek test a n h n (i * 16 + 2) ≡ sought test a n i h
+  unfolding sought
+  sought-in test h l m = rw (inside l m)
 
   pub star-short : length a / 16 < n → Damaged ≡ starChild a n i
   unfolding starChild
@@ -123,7 +127,7 @@ module _ (a : List ℕ) (n i : ℕ) where
   missing-literal h link e =
       below-missing n (literalChild a n i h) link
       (pick-ind (Below n) (outside a n i) (λ _. tt)
-      (λ t. seek-below a n h n h (i * 16 + 2) (omega (arith, inside-less t))))
+      (λ t. seek-below (byHash a h) a n n h (i * 16 + 2) (omega (arith, inside-less t))))
       e
 
   pub missing-star : (link : ℕ) → starChild a n i ≡ Missing link → link < n * 16

@@ -21,23 +21,42 @@ word a i f = getD a (i * 16 + f) 0
 abbrev pub hashIs : List ℕ → ℕ → ℕ → Bool
 hashIs a i h = and (eqb (word a i 0) (h % 4294967296)) (eqb (word a i 1) (h / 4294967296))
 
+-- what the test of a node says: it is the one sought; it is another; or what it is to be compared with lies outside, which is damage
+pub data Met : Type 0 where
+  Here : Met
+  Passed : Met
+  Outside : Met
+
+abbrev pub met : Met → Child → Child → Child
+met Here x y = x
+met Passed x y = y
+met Outside x y = Damaged
+
+abbrev pub told : Bool → Met
+told true = Here
+told false = Passed
+
+-- the test by the hash alone, which nothing is outside of
+abbrev pub byHash : List ℕ → ℕ → ℕ → Met
+byHash a h i = told (hashIs a i h)
+
 -- 19 of a lookup: n nodes do not fit the area, or node i is none of them
 abbrev pub outside : List ℕ → ℕ → ℕ → Bool
 outside a n i = or (ltb (length a / 16) n) (leb n i)
 
--- the sibling with the hash h on the chain that starts in word `link`, among n nodes and within so many steps; `rest` is what is left of h to choose the way.
+-- the sibling that the test meets on the chain that starts in word `link`, among n nodes and within so many steps; `rest` is what is left of the hash sought to choose the way.
 -- Missing says in which word its number would stand. A chain that does not end within the steps is damaged, and so is a number of no node.
-unfoldable pub seek : List ℕ → ℕ → ℕ → ℕ → ℕ → ℕ → Child
-seek a n h rest zero link = pick (eqb (getD a link 0) 0) (Missing link) Damaged
-seek a n h rest (suc steps) link =
+unfoldable pub seek : (ℕ → Met) → List ℕ → ℕ → ℕ → ℕ → ℕ → Child
+seek test a n rest zero link = pick (eqb (getD a link 0) 0) (Missing link) Damaged
+seek test a n rest (suc steps) link =
     pick (eqb (getD a link 0) 0) (Missing link)
     (pick (leb n (getD a link 0)) Damaged
-    (pick (hashIs a (getD a link 0) h) (Node (getD a link 0))
-    (seek a n h (rest / 4) steps (getD a link 0 * 16 + 8 + rest % 4))))
+    (met (test (getD a link 0)) (Node (getD a link 0))
+    (seek test a n (rest / 4) steps (getD a link 0 * 16 + 8 + rest % 4))))
 
 -- the literal child of node i with the hash h
 unfoldable pub literalChild : List ℕ → ℕ → ℕ → ℕ → Child
-literalChild a n i h = pick (outside a n i) Damaged (seek a n h h n (i * 16 + 2))
+literalChild a n i h = pick (outside a n i) Damaged (seek (byHash a h) a n h n (i * 16 + 2))
 
 -- the `*` child of node i
 unfoldable pub starChild : List ℕ → ℕ → ℕ → Child
@@ -50,3 +69,12 @@ starChild a n i =
 abbrev pub childOf : List ℕ → ℕ → ℕ → Key ℕ → Child
 childOf a n i star = starChild a n i
 childOf a n i (lit h) = literalChild a n i h
+
+-- the same for keys of any kind, by the test of a node for a key and the key's hash
+unfoldable pub sought : (ℕ → Met) → List ℕ → ℕ → ℕ → ℕ → Child
+sought test a n i h = pick (outside a n i) Damaged (seek test a n h n (i * 16 + 2))
+
+module _ {K : Type 0} (test : List ℕ → K → ℕ → Met) (hash : K → ℕ) where
+  abbrev pub childBy : List ℕ → ℕ → ℕ → Key K → Child
+  childBy a n i star = starChild a n i
+  childBy a n i (lit x) = sought (test a x) a n i (hash x)

@@ -3,7 +3,7 @@ ghost use mathlib.Core.Path.{_≡_};
 ghost use Prim.Native.Nat.{ℕ, _+_, _*_, _/_, _<_, _≤_, _^_};
 ghost use lib.ListN.{length};
 ghost use Rattle.sublist_tree.specs.Tree.{star, lit};
-ghost use Rattle.sublist_area.specs.Words.{hashIs, seek, literalChild, starChild};
+ghost use Rattle.sublist_area.specs.Words.{hashIs, byHash, seek, literalChild, starChild};
 ghost use Rattle.sublist_area.specs.Growing.{added, placed, childOrNew, rooted};
 
 // The words that a node takes.
@@ -43,7 +43,7 @@ fn has_hash(area: &[u32], at: usize, hash: u64) -> bool
 // The sibling with the hash, from a link on.
 fn seek_sibling(area: &[u32], count: usize, start: usize, hash: u64) -> Child
     requires { ⌜ (count ≤ length (now area) / 16) × (start < count * 16) ⌝ }
-    ensures { λ r. ⌜ r ≡ seek (now (area .entry)) count hash hash count start ⌝ }
+    ensures { λ r. ⌜ r ≡ seek (byHash (now (area .entry)) hash) (now (area .entry)) count hash count start ⌝ }
 {
     let mut link = start;
     let mut rest = hash;

@@ -8,7 +8,7 @@ use mathlib.Core.List.{List, [], _∷_}
 use lib.ListN.{length, getD, take, drop, set}
 use borrow.Author.Tests.{lt-ltb, le-leb, ne-eqb}
 use Rattle.sublist_tree.specs.Lists.{All}
-use Rattle.sublist_trie.proofs.Members.{In}
+use Rattle.sublist_tree.proofs.Members.{In}
 use Rattle.sublist_original.specs.Original.{Ok, _!_, change, slice, push, u32-from, contains}
 
 module _ {A : Type 0} where

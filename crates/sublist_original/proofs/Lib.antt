@@ -9,5 +9,7 @@ pub mod WorstCases
 pub mod Walking
 pub mod Accepting
 pub mod SameTable
+pub mod Refusing
 pub mod SameAnswers
+pub mod SameInserts
 pub mod OriginalRows

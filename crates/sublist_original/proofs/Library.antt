@@ -9,7 +9,7 @@ use lib.Dec.{leb, eqb}
 use mathlib.Core.Bool.{Bool, true, false}
 use borrow.Author.Tests.{leb-true, leb-false, eqb-true, eqb-false}
 use Rattle.subject.specs.Choice.{pick}
-use Rattle.sublist_trie.proofs.Members.{In, Distinct, All-in, All-at}
+use Rattle.sublist_tree.proofs.Members.{In, Distinct, All-in, All-at}
 use Rattle.sublist_original.specs.Original.{Ok, _!_, Literal, Each, Ascending, Reordered, empty, first, swap, in-turn, Std}
 
 -- what is said of each is said of one that stands in the list

@@ -2,17 +2,15 @@
 --
 --   insert-same-refusal    a text that `insert` refuses: its refusal
 --   insert-same-entry      one that it accepts: kept behind the others; we then answer 10, 11 or the counts
---   build-same-refusal     entries that no added refusal meets, and a `build` refused: 16 with the same two numbers
---   build-same-table       a `build` accepted: 0 with the same node count and generation
---   match-same-refusal     a text that `parse_literal` refuses: its refusal
---   match-same-list        one that it accepts: the list that `match_into` gives, written; or 21, where the output is shorter
+--   build-same             entries that 10, 12, 14, 15 do not meet, their texts UTF-8 of at most 4,096 bytes: the original's table, its lists, or its refusal (13, 16)
+--   match-same-refusal     a text that `parse_literal` refuses: its refusal, over any table
 use Prim.Native.Nat.{ℕ, _+_, _-_, _/_, _≤_, _<_}
 use native.Mathlib.Omega.{arith}
 use native.Mathlib.Decide.{decLt}
-use mathlib.Core.Path.{_≡_, refl, sym, _∙_, ap}
+use mathlib.Core.Path.{_≡_, refl, sym, _∙_, ap, subst}
 use mathlib.Core.Bool.{true, false}
 use mathlib.Core.List.{List, [], _∷_, map}
-use mathlib.Core.Option.{none}
+use mathlib.Core.Option.{Option, none, some}
 use lib.Dec.{eqb, ltb, leb}
 use lib.ListN.{length, length-map}
 use borrow.Author.Tests.{lt-ltb, le-ltb}
@@ -20,7 +18,7 @@ use Rattle.subject.specs.Choice.{pick, or}
 use Rattle.subject.specs.Text.{tokens}
 use Rattle.subject.specs.Utf8.{firstBad}
 use Rattle.subject.specs.Fnv.{fnv}
-use Rattle.subject.specs.Answers.{Answer, answer, whenAccepted}
+use Rattle.subject.specs.Answers.{Answer, answer, unless, whenAccepted}
 use Rattle.subject.specs.Original as subject
 use Rattle.subject.specs.Original.{Error, Empty, EmptyToken, IllegalChar, ControlChar, WildcardNotAllowed, TailWildcardNotLast, TooDeep, validate, answerOf}
 use Rattle.subject.proofs.SameGrammar.{grammar-original}
@@ -32,17 +30,20 @@ use Rattle.sublist_tree.proofs.Hash.{hash-fork}
 use Rattle.sublist_walk.specs.Walk.{found, walkOver}
 use Rattle.sublist_walk.specs.Matching.{countsFit, Outcome, outcome, written, ifSubject, matchTable}
 use Rattle.sublist_walk.proofs.Held.{match-holds}
-use Rattle.sublist.specs.declared.Entry.{Entry}
-use Rattle.sublist.specs.declared.ListState.{ListState}
-use Rattle.sublist.specs.Entries.{readFrom, linesOf}
-use Rattle.sublist.specs.Inserting.{insertSays}
+use Rattle.sublist_entries.specs.declared.Entry.{Entry}
+use Rattle.sublist_entries.specs.declared.ListState.{ListState}
+use Rattle.sublist_entries.specs.Entries.{textOf, readFrom, linesOf}
+use Rattle.sublist_entries.specs.Inserting.{entriesFull, textFull, withPattern, listNumbers, insertSays}
 use Rattle.sublist.specs.Building.{badEntries, needed, worstOf, buildSays}
-use Rattle.sublist.specs.Leaving.{buildLeaves}
-use Rattle.sublist.proofs.Filling.{nodesIn, targetsIn}
+use Rattle.sublist.specs.Leaving.{buildLeaves, BuildOutcome, buildInto}
+use Rattle.sublist.specs.Passes.{nodeWordsIn, targetWordsIn}
 use Rattle.sublist.proofs.Composed.{lines-length, all-accepted}
 use Rattle.sublist.proofs.Builds.{Taken, build-stands}
-use Rattle.sublist_original.specs.Original.{Ok, Err, SublistError, ForkLimitExceeded, Std, SublistBuilder, new, push, insert, insert-all, Sublist, build, node-count, match-into}
+use Rattle.sublist_original.specs.Original.{Ok, Err, Panic, SublistError, InvalidPattern, ForkLimitExceeded, Std, SublistBuilder, new, push, insert, insert-all, Sublist, build, node-count, match-into}
+use Rattle.sublist_original.specs.Original as original
 use Rattle.sublist_original.specs.Entries.{pairs, builderOf}
+use Rattle.sublist_original.specs.Same.{SameMatch, Plain, SameTable, SameBuild}
+use Rattle.sublist_original.proofs.Refusing.{Inside, first-bad, refused-build}
 use Rattle.sublist_original.proofs.Accepting.{insert-accepts}
 use Rattle.sublist_original.proofs.SameTable.{build-refused, build-accepted, match-original}
 
@@ -83,20 +84,33 @@ insert-keeps builder pattern target after q = go (validate pattern true) refl q
 module _ (pattern : List ℕ) (short : length pattern ≤ 4096) (utf8 : firstBad pattern ≡ none) (list : ListState) (places bytes : ℕ) (builder : SublistBuilder ℕ) (target : ℕ) where
   pub insert-same-refusal : (e : Error) → insert builder pattern target ≡ subject.Err e → insertSays list places bytes pattern ≡ answerOf (subject.Err e)
   unfolding insertSays
-  insert-same-refusal e q =
-      rw (grammar-original true pattern short utf8, insert-parses builder pattern target e q)
-      (refusal-stands e
-      (pick (or (leb 2048 (list .entries)) (leb places (list .entries))) (answer 10 [])
-      (pick (ltb (bytes - list .used) (length pattern)) (answer 11 []) (answer 0 ((list .entries + 1) ∷ (list .used + length pattern) ∷ [])))))
+  insert-same-refusal e q = rw (grammar-original true pattern short utf8, insert-parses builder pattern target e q) (refusal-stands e _)
 
   pub insert-same-entry : (after : SublistBuilder ℕ) → insert builder pattern target ≡ subject.Ok after
       → (after .entries ≡ push (builder .entries) (pattern, target))
       × (insertSays list places bytes pattern
-      ≡ pick (or (leb 2048 (list .entries)) (leb places (list .entries))) (answer 10 [])
-      (pick (ltb (bytes - list .used) (length pattern)) (answer 11 [])
-      (answer 0 ((list .entries + 1) ∷ (list .used + length pattern) ∷ []))))
+      ≡ unless (entriesFull list places) (unless (textFull list bytes (length pattern)) (answer 0 (listNumbers (withPattern list (length pattern))))))
   unfolding insertSays
   insert-same-entry after q = let w = insert-keeps builder pattern target after q in (w .2, rw (grammar-original true pattern short utf8, w .1))
+
+-- ---- the walk
+
+-- a refused subject, over any table
+refusal-first : (e : Error) (out : List ℕ) (after : Outcome) → ifSubject (answerOf (subject.Err e)) out after ≡ outcome (answerOf (subject.Err e)) out
+refusal-first Empty out after = refl
+refusal-first (EmptyToken index) out after = refl
+refusal-first (IllegalChar ch index) out after = refl
+refusal-first (ControlChar ch index) out after = refl
+refusal-first (WildcardNotAllowed ch index) out after = refl
+refusal-first (TailWildcardNotLast index) out after = refl
+refusal-first (TooDeep depth) out after = refl
+
+pub match-same-refusal : (n m : ℕ) (a ts text out : List ℕ) → length text ≤ 4096 → firstBad text ≡ none → (e : Error) → validate text false ≡ subject.Err e
+    → matchTable n m a ts text out ≡ outcome (answerOf (subject.Err e)) out
+unfolding matchTable
+match-same-refusal n m a ts text out short utf8 e parsed =
+    rw (grammar-original false text short utf8, parsed)
+    (refusal-first e out (pick (countsFit n m a ts) (written (walkOver 1024 a n m ts (map fnv (tokens text))) out) (outcome (answer 19 []) out)))
 
 -- ---- the table
 
@@ -154,51 +168,96 @@ module _ (std : Std) (es : List Entry) (store : List ℕ) (few : length es ≤ 2
       unfolding buildSays
       says = rw (le-ltb 2048 (length es) few, sound, le-ltb room (needed store es) fits, le-ltb places (length es) wide)
 
-      pub build-same-refusal : (worst-case limit : ℕ) → build std (builderOf (readFrom store es)) generation ≡ Err (ForkLimitExceeded worst-case limit)
+      same-refusal : (worst-case limit : ℕ) → build std (builderOf (readFrom store es)) generation ≡ Err (ForkLimitExceeded worst-case limit)
           → buildSays es store room places generation ≡ answer 16 (worst-case ∷ limit ∷ [])
-      build-same-refusal worst-case limit made =
+      same-refusal worst-case limit made =
           let w = refused-over (ForkLimitExceeded worst-case limit) made in
           let same = w .1 in
           let one : worst-case ≡ worstOf store es = cc in
           let two : limit ≡ 1024 = cc in
           rw (says, lt-ltb 1024 (worstOf store es) (w .0), one, two)
 
-      pub build-same-table : (table : Sublist ℕ) → build std (builderOf (readFrom store es)) generation ≡ Ok table
+      same-says : (table : Sublist ℕ) → build std (builderOf (readFrom store es)) generation ≡ Ok table
           → buildSays es store room places generation ≡ answer 0 (node-count table ∷ worstOf store es ∷ table .generation ∷ [])
-      build-same-table table made =
+      same-says table made =
           let w = table-under table made in
           rw (says, le-ltb 1024 (worstOf store es) (w .0), w .1, w .2)
 
+    fork-refused : (a ts : List ℕ) → needed store es ≤ length a / 16 → length es ≤ length ts → (worst-case limit : ℕ)
+        → build std (builderOf (readFrom store es)) generation ≡ Err (ForkLimitExceeded worst-case limit) → (buildInto es store a ts generation) .says ≡ answer 16 (worst-case ∷ limit ∷ [])
+    unfolding buildInto
+    fork-refused a ts fits wide worst-case limit made = same-refusal (length a / 16) (length ts) fits wide worst-case limit made
+
+    never-panics : build std (builderOf (readFrom store es)) generation ≡ Panic → ⊥
+    never-panics made = go (decLt 1024 (worst eqb 32 (linesOf store es)))
+      where
+        go : Dec (1024 < worst eqb 32 (linesOf store es)) → ⊥
+        go (yes over) =
+            let e = build-refused std (readFrom store es) as-many (builderOf (readFrom store es)) entries-inserted generation over in
+            let z : _≡_ {A = ℕ} 0 1 = cc in
+            omega arith
+        go (no under) =
+            let e = build-accepted std (readFrom store es) as-many (builderOf (readFrom store es)) entries-inserted generation (omega arith) in
+            let z : _≡_ {A = ℕ} 0 1 = cc (e .1) in
+            omega arith
+
     -- ---- the walk, over what our build leaves in areas that hold the table
 
-    pub match-same-list : (a ts : List ℕ) → needed store es ≤ length a / 16 → length es ≤ length ts → (table : Sublist ℕ) → build std (builderOf (readFrom store es)) generation ≡ Ok table
-        → (text : List ℕ) → length text ≤ 4096 → firstBad text ≡ none → (n : ℕ) → validate text false ≡ subject.Ok n → (old list : List ℕ) → match-into std table text old ≡ Ok list
-        → (out : List ℕ)
-        → matchTable (needed store es) (length es) (nodesIn (buildLeaves es store a ts)) (targetsIn (buildLeaves es store a ts)) text out
-        ≡ written (found list (peak eqb (map fnv (tokens text)) (linesOf store es ∷ []))) out
-    match-same-list a ts fits wide table made text short utf8 n parsed old list gives out =
-        let w = table-under table made in
-        let t : Taken es store (length a / 16) (length ts) = record { few = few; sound = sound; fits = fits; wide = wide; fork = w .0 } in
-        let e = match-original std (readFrom store es) as-many (builderOf (readFrom store es)) entries-inserted generation table made text old in
-        let same : list ≡ walk eqb (map fnv (tokens text)) (linesOf store es ∷ []) = cc in
-        let narrow : peak eqb (map fnv (tokens text)) (linesOf store es ∷ []) ≤ 1024 = omega (arith, hash-fork (map fnv (tokens text)) (readFrom store es) accepted, worst-is, w .0) in
-        rw same
-        (match-holds (nodesIn (buildLeaves es store a ts)) (needed store es) (length es) (targetsIn (buildLeaves es store a ts)) (linesOf store es) (build-stands es store a ts t) text out narrow
-        ∙ rw (grammar-original false text short utf8, parsed))
+    module _ (a ts : List ℕ) (fits : needed store es ≤ length a / 16) (wide : length es ≤ length ts) (table : Sublist ℕ) (made : build std (builderOf (readFrom store es)) generation ≡ Ok table) where
+      abbrev theirs : List ℕ → List ℕ
+      theirs text = walk eqb (map fnv (tokens text)) (linesOf store es ∷ [])
 
--- a refused subject, over any table
-refusal-first : (e : Error) (out : List ℕ) (after : Outcome) → ifSubject (answerOf (subject.Err e)) out after ≡ outcome (answerOf (subject.Err e)) out
-refusal-first Empty out after = refl
-refusal-first (EmptyToken index) out after = refl
-refusal-first (IllegalChar ch index) out after = refl
-refusal-first (ControlChar ch index) out after = refl
-refusal-first (WildcardNotAllowed ch index) out after = refl
-refusal-first (TailWildcardNotLast index) out after = refl
-refusal-first (TooDeep depth) out after = refl
+      abbrev found-in : List ℕ → List ℕ → Outcome
+      found-in text out = matchTable (needed store es) (length es) (nodeWordsIn (buildLeaves es store a ts)) (targetWordsIn (buildLeaves es store a ts)) text out
 
-pub match-same-refusal : (n m : ℕ) (a ts text out : List ℕ) → length text ≤ 4096 → firstBad text ≡ none → (e : Error) → validate text false ≡ subject.Err e
-    → matchTable n m a ts text out ≡ outcome (answerOf (subject.Err e)) out
-unfolding matchTable
-match-same-refusal n m a ts text out short utf8 e parsed =
-    rw (grammar-original false text short utf8, parsed)
-    (refusal-first e out (pick (countsFit n m a ts) (written (walkOver 1024 a n m ts (map fnv (tokens text))) out) (outcome (answer 19 []) out)))
+      same-list : (text out : List ℕ) → Plain text → (n : ℕ) → validate text false ≡ subject.Ok n
+          → found-in text out ≡ written (found (theirs text) (peak eqb (map fnv (tokens text)) (linesOf store es ∷ []))) out
+      same-list text out plain n parsed =
+          let w = table-under table made in
+          let t : Taken es store (length a / 16) (length ts) = record { few = few; sound = sound; fits = fits; wide = wide; fork = w .0 } in
+          let narrow : peak eqb (map fnv (tokens text)) (linesOf store es ∷ []) ≤ 1024 = omega (arith, hash-fork (map fnv (tokens text)) (readFrom store es) accepted, worst-is, w .0) in
+          match-holds (nodeWordsIn (buildLeaves es store a ts)) (needed store es) (length es) (targetWordsIn (buildLeaves es store a ts)) (linesOf store es) (build-stands es store a ts t) text out narrow
+          ∙ rw (grammar-original false text (plain .0) (plain .1), parsed)
+
+      same-match : (text out : List ℕ) → Plain text → SameMatch (validate text false) (match-into std table text []) out (found-in text out)
+      same-match text out plain = go (validate text false) refl
+        where
+          go : (v : subject.Result ℕ) → validate text false ≡ v → SameMatch v (match-into std table text []) out (found-in text out)
+          go (subject.Err e) q = match-same-refusal (needed store es) (length es) (nodeWordsIn (buildLeaves es store a ts)) (targetWordsIn (buildLeaves es store a ts)) text out (plain .0) (plain .1) e q
+          go (subject.Ok n) q =
+              subst (λ m. SameMatch (subject.Ok n) m out (found-in text out))
+              (sym (match-original std (readFrom store es) as-many (builderOf (readFrom store es)) entries-inserted generation table made text []))
+              (peak eqb (map fnv (tokens text)) (linesOf store es ∷ []), same-list text out plain n q)
+
+      same-table : SameTable std table (length es) (buildInto es store a ts generation)
+      unfolding buildInto
+      same-table = record {
+        worst-case = worstOf store es;
+        says = same-says (length a / 16) (length ts) fits wide table made;
+        finds = λ text out plain. rw (table-under table made .1) (same-match text out plain);
+      }
+
+first-refused : (es : List Entry) (store a ts : List ℕ) (generation : ℕ) → length es ≤ 2048 → (r : Answer) → badEntries store 0 es ≡ some r → (buildInto es store a ts generation) .says ≡ r
+unfolding buildInto buildSays
+first-refused es store a ts generation few r q = rw (le-ltb 2048 (length es) few, q)
+
+-- entries that 10 and 12 do not meet, their texts UTF-8 of at most 4,096 bytes, in areas that hold the table (14, 15)
+pub build-same : (std : Std) (es : List Entry) (store : List ℕ) → length es ≤ 2048 → All (Inside store) es → All (λ e. Plain (textOf store e)) es
+    → (a ts : List ℕ) (generation : ℕ) → needed store es ≤ length a / 16 → length es ≤ length ts
+    → SameBuild std (build std (builderOf (readFrom store es)) generation) (length es) (buildInto es store a ts generation)
+build-same std es store few inside plain a ts generation fits wide = go (badEntries store 0 es) refl
+  where
+    o : BuildOutcome
+    o = buildInto es store a ts generation
+
+    sound-build : badEntries store 0 es ≡ none → (m : original.Outcome (Sublist ℕ)) → build std (builderOf (readFrom store es)) generation ≡ m → SameBuild std m (length es) o
+    sound-build q (Ok table) made = same-table std es store few q generation a ts fits wide table made
+    sound-build q (Err (InvalidPattern e)) made = let w = refused-over std es store few q generation (InvalidPattern e) made in let z : _≡_ {A = ℕ} 0 1 = cc (w .1) in absurd (omega arith)
+    sound-build q (Err (ForkLimitExceeded worst limit)) made = fork-refused std es store few q generation a ts fits wide worst limit made
+    sound-build q Panic made = never-panics std es store few q generation made
+
+    go : (b : Option Answer) → badEntries store 0 es ≡ b → SameBuild std (build std (builderOf (readFrom store es)) generation) (length es) o
+    go none q = sound-build q (build std (builderOf (readFrom store es)) generation) refl
+    go (some r) q =
+        let k = first-bad store 0 es inside plain r q in
+        subst (λ m. SameBuild std m (length es) o) (sym (refused-build std store es r k few generation)) (first-refused es store a ts generation few r q ∙ k .holds)

@@ -8,7 +8,7 @@
 --   match-due        build std builder generation ≡ Ok table → match-into std table text out ≡ Ok (due eqb (map fnv (tokens text)) (rootOf fnv es))
 --   keys-apart       build std builder generation ≡ Ok table → i < node-count table → Distinct (keys (getD (table .nodes) i no-node .literals))
 --   nodes-few        length (nodes eqb (rootOf fnv es)) ≤ 65537
---   sums-few         worst eqb 32 (leftOf eqb (rootOf fnv es) i) ≤ 2048
+--   sums-few         worst eqb 32 (leftOf eqb (rootOf fnv es) (built eqb (rootOf fnv es)) i) ≤ 2048
 --
 -- `text` is any text, so any that `parse_literal` accepts. `Ok` and `Err` say too that nothing panics: every index is inside, every node's number and every range fits a u32,
 -- and no `debug_assert!` fails. By `sums-few`, what the original adds up at a node is far from 2^64. Accepting.antt joins `insert` to our grammar.
@@ -34,10 +34,11 @@ use Rattle.sublist_tree.proofs.Bytes.{eqb-sound, eqb-whole}
 use Rattle.sublist_tree.proofs.Hash.{hash-due}
 use Rattle.sublist_trie.specs.Trie.{size, run, built}
 use Rattle.sublist_trie.specs.Ends.{endsOf, endIn}
-use Rattle.sublist_trie.proofs.Members.{Distinct}
+use Rattle.sublist_trie.proofs.Children.{built-for}
+use Rattle.sublist_tree.proofs.Members.{Distinct}
 use Rattle.sublist_trie.proofs.Sizes.{size-nodes}
 use Rattle.sublist_trie.proofs.Targets.{ends-stay}
-use Rattle.sublist_trie.proofs.Frontier.{leftOf}
+use Rattle.sublist_trie.proofs.For.{leftOf}
 use Rattle.sublist_trie.proofs.Heads.{left-length}
 use Rattle.sublist_original.specs.Original.{Ok, Err, ForkLimitExceeded, Std, SublistBuilder, new, insert-all, Arena, Node, Sublist, each-scratch, build, node-count, match-into}
 use Rattle.sublist_original.specs.Entries.{pairs}
@@ -108,7 +109,7 @@ module _ (std : Std) (es : List TableEntry) (few : length es ≤ 2048) (builder 
   build-accepted under = (
     tableOf std es valid few generation,
     made-is under,
-    holds std es valid few .many ∙ size-nodes eqb eqb-sound eqb-whole (rootOf fnv es),
+    holds std es valid few .many ∙ size-nodes eqb eqb-sound eqb-whole (rootOf fnv es) (built eqb (rootOf fnv es)) (built-for eqb eqb-sound eqb-whole (rootOf fnv es)),
     refl,
   )
 
@@ -135,14 +136,14 @@ module _ (std : Std) (es : List TableEntry) (few : length es ≤ 2048) (builder 
 
   -- the nodes' numbers are below 65,537
   pub nodes-few : length (nodes eqb (rootOf fnv es)) ≤ 65537
-  nodes-few = omega (arith, nodes-most es valid, size-nodes eqb eqb-sound eqb-whole (rootOf fnv es))
+  nodes-few = omega (arith, nodes-most es valid, size-nodes eqb eqb-sound eqb-whole (rootOf fnv es) (built eqb (rootOf fnv es)) (built-for eqb eqb-sound eqb-whole (rootOf fnv es)))
 
   -- what the original adds up at a node
-  pub sums-few : (i : ℕ) → worst eqb 32 (leftOf eqb (rootOf fnv es) i) ≤ 2048
+  pub sums-few : (i : ℕ) → worst eqb 32 (leftOf eqb (rootOf fnv es) (built eqb (rootOf fnv es)) i) ≤ 2048
   sums-few i =
       omega (
         arith,
-        worst-length eqb 32 (leftOf eqb (rootOf fnv es) i),
+        worst-length eqb 32 (leftOf eqb (rootOf fnv es) (built eqb (rootOf fnv es)) i),
         left-length eqb (run (built eqb (rootOf fnv es)) i) (rootOf fnv es),
         length-map es (entryLine fnv),
       )

@@ -18,9 +18,11 @@ use Rattle.sublist_tree.specs.Tree.{star, lit, Line, ends, walk, worst}
 use Rattle.sublist_tree.proofs.Fork.{Within, peak-worst}
 use Rattle.sublist_tree.proofs.Bytes.{eqb-sound, eqb-whole}
 use Rattle.sublist_trie.specs.Trie.{size, child, built, keep, front}
-use Rattle.sublist_trie.proofs.Members.{Distinct}
+use Rattle.sublist_trie.proofs.Children.{built-for}
+use Rattle.sublist_tree.proofs.Members.{Distinct}
 use Rattle.sublist_trie.proofs.Growth.{good-built}
-use Rattle.sublist_trie.proofs.Frontier.{Inside, leftOf, widest, front-inside, front-distinct, left-root, root-inside, root-peak}
+use Rattle.sublist_trie.proofs.For.{leftOf}
+use Rattle.sublist_trie.proofs.Frontier.{Inside, widest, front-inside, front-distinct, left-root, root-inside, root-peak}
 use Rattle.sublist_trie.proofs.Walks.{walkBy, walk-by}
 use Rattle.sublist_original.specs.Original.{Ok, Std, Literal, Sublist, push-unique-capped, push-some, collect-range, each-live, child-at, literal-child, each-nid, each-level, match-into}
 use Rattle.sublist_original.proofs.Indexing.{index-in, index-found, slice-in, contains-none}
@@ -73,10 +75,10 @@ collected table r xs out a = rw (slice-in (table .targets) (r .0) (r .1) (a .0) 
 
 module _ (std : Std) (ls : List (Line ℕ)) (table : Sublist ℕ) (r : Tabled ls (table .nodes) (table .targets)) where
   abbrev tails : ℕ → List ℕ
-  tails i = ends true (leftOf eqb ls i)
+  tails i = ends true (leftOf eqb ls (built eqb ls) i)
 
   abbrev exacts : ℕ → List ℕ
-  exacts i = ends false (leftOf eqb ls i)
+  exacts i = ends false (leftOf eqb ls (built eqb ls) i)
 
   -- the search finds the child
   child-found : (i h : ℕ) → i < size (built eqb ls) → literal-child std (getD (table .nodes) i no-node) h ≡ Ok (optional (child eqb (built eqb ls) i (lit h)))
@@ -203,8 +205,8 @@ module _ (std : Std) (ls : List (Line ℕ)) (table : Sublist ℕ) (r : Tabled ls
   unfolding match-into
   match-found d within fork subject out =
       let hs = map fnv (tokens subject) in
-      let few : widest eqb (built eqb ls) hs (0 ∷ []) ≤ 1024 = omega (arith, root-peak eqb eqb-sound eqb-whole ls hs, peak-worst eqb eqb-sound d hs ls within) in
-      rw (split-tokens subject, all-levels (tokens subject) [] (0 ∷ []) (root-inside eqb eqb-sound eqb-whole ls) (tt, tt) few)
+      let few : widest eqb (built eqb ls) hs (0 ∷ []) ≤ 1024 = omega (arith, root-peak eqb eqb-sound eqb-whole ls (built eqb ls) (built-for eqb eqb-sound eqb-whole ls) hs, peak-worst eqb eqb-sound d hs ls within) in
+      rw (split-tokens subject, all-levels (tokens subject) [] (0 ∷ []) (root-inside eqb eqb-sound eqb-whole ls (built eqb ls) (built-for eqb eqb-sound eqb-whole ls)) (tt, tt) few)
       (ap Ok
-      (walk-by eqb eqb-sound eqb-whole ls tails exacts (λ i l. refl) (λ i l. refl) hs (0 ∷ []) (root-inside eqb eqb-sound eqb-whole ls)
-      ∙ ap (λ n. walk eqb hs (n ∷ [])) (left-root eqb eqb-sound eqb-whole ls)))
+      (walk-by eqb eqb-sound eqb-whole ls (built eqb ls) (built-for eqb eqb-sound eqb-whole ls) tails exacts (λ i l. refl) (λ i l. refl) hs (0 ∷ []) (root-inside eqb eqb-sound eqb-whole ls (built eqb ls) (built-for eqb eqb-sound eqb-whole ls))
+      ∙ ap (λ n. walk eqb hs (n ∷ [])) (left-root eqb eqb-sound eqb-whole ls (built eqb ls) (built-for eqb eqb-sound eqb-whole ls))))

@@ -16,11 +16,12 @@ use Rattle.sublist_tree.specs.Tree.{Key, star, lit, Line, ifAny, below, heads, 
 use Rattle.sublist_tree.proofs.Fork.{Within, worst-fuel}
 use Rattle.sublist_tree.proofs.Bytes.{eqb-sound, eqb-whole}
 use Rattle.sublist_trie.specs.Trie.{size, run, child, built}
-use Rattle.sublist_trie.proofs.Members.{In}
+use Rattle.sublist_trie.proofs.Children.{built-for}
+use Rattle.sublist_tree.proofs.Members.{In}
 use Rattle.sublist_trie.proofs.Runs.{size-pos, child-less, child-parent}
 use Rattle.sublist_trie.proofs.Growth.{good-built}
-use Rattle.sublist_trie.proofs.Children.{child-none, child-some}
-use Rattle.sublist_trie.proofs.Frontier.{leftOf, left-root}
+use Rattle.sublist_trie.proofs.For.{leftOf, child-none, child-some}
+use Rattle.sublist_trie.proofs.Frontier.{left-root}
 use Rattle.sublist_trie.proofs.Heads.{ifAny-some, within-left, heads-reach, heads-least}
 use Rattle.sublist_original.specs.Original.{Ok, Literal, Node, best-literal, star-of, deeper, each-id, first-or, worst-case-frontier}
 use Rattle.sublist_original.proofs.Indexing.{index-in, change-in}
@@ -64,17 +65,17 @@ deeper-sum s l = go (ltb 0 s) refl (ltb 0 l) refl
 module _ (d : ℕ) (ls : List (Line ℕ)) (within : Within d ls) (ns : List Node) (ts : List ℕ) (r : Tabled ls ns ts) where
   -- the nodes from m on have their worst cases
   abbrev Done : ℕ → List ℕ → Type 0
-  Done m wcf = (length wcf ≡ size (built eqb ls)) × ((j : ℕ) → m ≤ j → j < size (built eqb ls) → getD wcf j 0 ≡ worst eqb d (leftOf eqb ls j))
+  Done m wcf = (length wcf ≡ size (built eqb ls)) × ((j : ℕ) → m ≤ j → j < size (built eqb ls) → getD wcf j 0 ≡ worst eqb d (leftOf eqb ls (built eqb ls) j))
 
   abbrev literalPart : ℕ → ℕ
-  literalPart i = largest (map (λ h. worst eqb d (below eqb (lit h) (leftOf eqb ls i))) (heads eqb (leftOf eqb ls i)))
+  literalPart i = largest (map (λ h. worst eqb d (below eqb (lit h) (leftOf eqb ls (built eqb ls) i))) (heads eqb (leftOf eqb ls (built eqb ls) i)))
 
   abbrev starPart : ℕ → ℕ
-  starPart i = ifAny (below eqb star (leftOf eqb ls i)) (worst eqb d (below eqb star (leftOf eqb ls i)))
+  starPart i = ifAny (below eqb star (leftOf eqb ls (built eqb ls) i)) (worst eqb d (below eqb star (leftOf eqb ls (built eqb ls) i)))
 
-  worst-step : (i : ℕ) → worst eqb d (leftOf eqb ls i) ≡ max 1 (starPart i + literalPart i)
+  worst-step : (i : ℕ) → worst eqb d (leftOf eqb ls (built eqb ls) i) ≡ max 1 (starPart i + literalPart i)
   unfolding worst
-  worst-step i = sym (worst-fuel eqb d (leftOf eqb ls i) (within-left eqb (run (built eqb ls) i) d ls within))
+  worst-step i = sym (worst-fuel eqb d (leftOf eqb ls (built eqb ls) i) (within-left eqb (run (built eqb ls) i) d ls within))
 
   -- node m, when those above it have theirs
   module _ (m : ℕ) (h : m < size (built eqb ls)) (wcf : List ℕ) (done : Done (suc m) wcf) where
@@ -83,31 +84,31 @@ module _ (d : ℕ) (ls : List (Line ℕ)) (within : Within d ls) (ns : List Node
 
     -- a child is newer, and has its worst case
     child-has : (k : Key ℕ) → (child eqb (built eqb ls) m k ≡ 0 → ⊥)
-        → (child eqb (built eqb ls) m k < length wcf) × (getD wcf (child eqb (built eqb ls) m k) 0 ≡ worst eqb d (below eqb k (leftOf eqb ls m)))
+        → (child eqb (built eqb ls) m k < length wcf) × (getD wcf (child eqb (built eqb ls) m k) 0 ≡ worst eqb d (below eqb k (leftOf eqb ls (built eqb ls) m)))
     child-has k ne =
         let newer = child-parent eqb eqb-sound eqb-whole (built eqb ls) m k (good-built eqb eqb-sound eqb-whole ls) ne .0 in
         let less = child-less eqb (built eqb ls) m k in (
           omega (arith, done .0),
-          done .1 (child eqb (built eqb ls) m k) newer less ∙ ap (worst eqb d) (child-some eqb eqb-sound eqb-whole ls m k ne .1),
+          done .1 (child eqb (built eqb ls) m k) newer less ∙ ap (worst eqb d) (child-some eqb eqb-sound eqb-whole ls (built eqb ls) (built-for eqb eqb-sound eqb-whole ls) m k ne .1),
         )
 
-    literal-has : (g c : ℕ) → In {A = Literal} (g, c) literals → (c < length wcf) × (getD wcf c 0 ≡ worst eqb d (below eqb (lit g) (leftOf eqb ls m))) × (below eqb (lit g) (leftOf eqb ls m) ≡ [] → ⊥)
+    literal-has : (g c : ℕ) → In {A = Literal} (g, c) literals → (c < length wcf) × (getD wcf c 0 ≡ worst eqb d (below eqb (lit g) (leftOf eqb ls (built eqb ls) m))) × (below eqb (lit g) (leftOf eqb ls (built eqb ls) m) ≡ [] → ⊥)
     literal-has g c i =
         let w = r .child-of-literal m g c h i in
         let ne : child eqb (built eqb ls) m (lit g) ≡ 0 → ⊥ = λ z. w .1 (sym (w .0) ∙ z) in
         let v = child-has (lit g) ne in
-        (rw (← w .0) (v .0), rw (← w .0) (v .1), child-some eqb eqb-sound eqb-whole ls m (lit g) ne .0)
+        (rw (← w .0) (v .0), rw (← w .0) (v .1), child-some eqb eqb-sound eqb-whole ls (built eqb ls) (built-for eqb eqb-sound eqb-whole ls) m (lit g) ne .0)
 
     best-part : best wcf literals ≡ literalPart m
     best-part =
         omega (
           arith,
           best-least wcf literals (literalPart m) (λ g c i. let w = literal-has g c i in
-              omega (arith, w .1, heads-reach eqb eqb-sound eqb-whole (λ q. worst eqb d (below eqb (lit q) (leftOf eqb ls m))) g (leftOf eqb ls m) (w .2))),
-          heads-least eqb eqb-sound eqb-whole (λ q. worst eqb d (below eqb (lit q) (leftOf eqb ls m))) (best wcf literals) (leftOf eqb ls m) (λ g ne. reach g (λ z. ne (child-none eqb eqb-sound eqb-whole ls m (lit g) h z))),
+              omega (arith, w .1, heads-reach eqb eqb-sound eqb-whole (λ q. worst eqb d (below eqb (lit q) (leftOf eqb ls (built eqb ls) m))) g (leftOf eqb ls (built eqb ls) m) (w .2))),
+          heads-least eqb eqb-sound eqb-whole (λ q. worst eqb d (below eqb (lit q) (leftOf eqb ls (built eqb ls) m))) (best wcf literals) (leftOf eqb ls (built eqb ls) m) (λ g ne. reach g (λ z. ne (child-none eqb eqb-sound eqb-whole ls (built eqb ls) (built-for eqb eqb-sound eqb-whole ls) m (lit g) h z))),
         )
       where
-        reach : (g : ℕ) → (child eqb (built eqb ls) m (lit g) ≡ 0 → ⊥) → worst eqb d (below eqb (lit g) (leftOf eqb ls m)) ≤ best wcf literals
+        reach : (g : ℕ) → (child eqb (built eqb ls) m (lit g) ≡ 0 → ⊥) → worst eqb d (below eqb (lit g) (leftOf eqb ls (built eqb ls) m)) ≤ best wcf literals
         reach g ne = omega (arith, child-has (lit g) ne .1, best-reach wcf literals g (child eqb (built eqb ls) m (lit g)) (r .literal-of-child m g h ne))
 
     star-part : star-of wcf (optional (child eqb (built eqb ls) m star)) ≡ Ok (starPart m)
@@ -115,14 +116,14 @@ module _ (d : ℕ) (ls : List (Line ℕ)) (within : Within d ls) (ns : List Node
     star-part = go (ℕ-discrete (child eqb (built eqb ls) m star) 0)
       where
         go : Dec (child eqb (built eqb ls) m star ≡ 0) → star-of wcf (optional (child eqb (built eqb ls) m star)) ≡ Ok (starPart m)
-        go (yes z) = rw (eq-eqb (child eqb (built eqb ls) m star) 0 z, child-none eqb eqb-sound eqb-whole ls m star h z)
+        go (yes z) = rw (eq-eqb (child eqb (built eqb ls) m star) 0 z, child-none eqb eqb-sound eqb-whole ls (built eqb ls) (built-for eqb eqb-sound eqb-whole ls) m star h z)
         go (no ne) =
             let v = child-has star ne in
             rw (optional-some (child eqb (built eqb ls) m star) ne, index-in wcf (child eqb (built eqb ls) m star) 0 (v .0), v .1)
-            (ap Ok (sym (ifAny-some (below eqb star (leftOf eqb ls m)) (worst eqb d (below eqb star (leftOf eqb ls m))) (child-some eqb eqb-sound eqb-whole ls m star ne .0))))
+            (ap Ok (sym (ifAny-some (below eqb star (leftOf eqb ls (built eqb ls) m)) (worst eqb d (below eqb star (leftOf eqb ls (built eqb ls) m))) (child-some eqb eqb-sound eqb-whole ls (built eqb ls) (built-for eqb eqb-sound eqb-whole ls) m star ne .0))))
 
     abbrev after : List ℕ
-    after = set wcf m (worst eqb d (leftOf eqb ls m))
+    after = set wcf m (worst eqb d (leftOf eqb ls (built eqb ls) m))
 
     one : each-id ns (suc m) wcf ≡ each-id ns m after
     unfolding each-id
@@ -135,15 +136,15 @@ module _ (d : ℕ) (ls : List (Line ℕ)) (within : Within d ls) (ns : List Node
           star-part,
           deeper-sum (starPart m) (literalPart m),
           ← worst-step m,
-          change-in wcf m (λ _. worst eqb d (leftOf eqb ls m)) 0 (omega (arith, done .0)),
+          change-in wcf m (λ _. worst eqb d (leftOf eqb ls (built eqb ls) m)) 0 (omega (arith, done .0)),
         )
 
     done-more : Done m after
-    done-more = (length-set wcf m (worst eqb d (leftOf eqb ls m)) ∙ done .0, λ j l o. go j l o (ℕ-discrete j m))
+    done-more = (length-set wcf m (worst eqb d (leftOf eqb ls (built eqb ls) m)) ∙ done .0, λ j l o. go j l o (ℕ-discrete j m))
       where
-        go : (j : ℕ) → m ≤ j → j < size (built eqb ls) → Dec (j ≡ m) → getD after j 0 ≡ worst eqb d (leftOf eqb ls j)
-        go j l o (yes e) = rw e (getD-set-same wcf m (worst eqb d (leftOf eqb ls m)) 0 (omega (arith, done .0)))
-        go j l o (no ne) = getD-set-other wcf m j (worst eqb d (leftOf eqb ls m)) 0 ne ∙ done .1 j (omega arith) o
+        go : (j : ℕ) → m ≤ j → j < size (built eqb ls) → Dec (j ≡ m) → getD after j 0 ≡ worst eqb d (leftOf eqb ls (built eqb ls) j)
+        go j l o (yes e) = rw e (getD-set-same wcf m (worst eqb d (leftOf eqb ls (built eqb ls) m)) 0 (omega (arith, done .0)))
+        go j l o (no ne) = getD-set-other wcf m j (worst eqb d (leftOf eqb ls (built eqb ls) m)) 0 ne ∙ done .1 j (omega arith) o
 
   -- all nodes
   all-ids : (m : ℕ) (wcf : List ℕ) → m ≤ size (built eqb ls) → Done m wcf → (out : List ℕ) × (each-id ns m wcf ≡ Ok out) × Done 0 out
@@ -162,4 +163,4 @@ module _ (d : ℕ) (ls : List (Line ℕ)) (within : Within d ls) (ns : List Node
       let n = size (built eqb ls) in
       let w = all-ids (length ns) (replicate (length ns) 0) (omega (arith, r .many)) (length-replicate (length ns) 0 ∙ r .many, λ j l o. absurd (omega (arith, r .many))) in
       let pos = size-pos (built eqb ls) in
-      rw (w .1, first-is (w .0) (omega (arith, w .2 .0)), w .2 .1 0 (omega arith) pos, left-root eqb eqb-sound eqb-whole ls)
+      rw (w .1, first-is (w .0) (omega (arith, w .2 .0)), w .2 .1 0 (omega arith) pos, left-root eqb eqb-sound eqb-whole ls (built eqb ls) (built-for eqb eqb-sound eqb-whole ls))

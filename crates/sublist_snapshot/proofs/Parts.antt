@@ -12,7 +12,7 @@ use Rattle.subject.specs.Choice.{pick}
 use Rattle.sublist_tree.specs.Tree.{Key, star, lit, Line, ends}
 use Rattle.sublist_trie.specs.Trie.{leftAt}
 use Rattle.sublist_area.specs.declared.Child.the-variants.{Node, Missing, Damaged}
-use Rattle.sublist_area.specs.Words.{word, hashIs, outside, seek, literalChild, starChild, childOf}
+use Rattle.sublist_area.specs.Words.{Met, met, told, word, hashIs, byHash, outside, seek, literalChild, starChild, childOf}
 use Rattle.sublist_walk.specs.Walk.{part}
 use Rattle.sublist_walk.specs.Holds.{Says, Holds}
 
@@ -36,27 +36,29 @@ module _ (a : List ℕ) (n : ℕ) (fits : n * 16 ≤ length a) where
   inside-part : (i : ℕ) → i < n → outside (take (n * 16) a) n i ≡ false
   inside-part i h = rw (le-ltb (length (take (n * 16) a) / 16) n (omega (arith, length-take-le (n * 16) a fits)), lt-leb n i h)
 
-  seek-part : (h rest steps link : ℕ) → link < n * 16 → seek (take (n * 16) a) n h rest steps link ≡ seek a n h rest steps link
+  -- whatever the test is, if it says the same of the nodes
+  seek-part : (test′ test : ℕ → Met) → ((i : ℕ) → i < n → test′ i ≡ test i) → (rest steps link : ℕ) → link < n * 16
+      → seek test′ (take (n * 16) a) n rest steps link ≡ seek test a n rest steps link
   unfolding seek
-  seek-part h rest zero link l = rw (getD-take (n * 16) a link 0 l)
-  seek-part h rest (suc steps) link l =
+  seek-part test′ test same rest zero link l = rw (getD-take (n * 16) a link 0 l)
+  seek-part test′ test same rest (suc steps) link l =
       rw (getD-take (n * 16) a link 0 l)
-      (ap (pick (eqb (getD a link 0) 0) (Missing link)) (go (leb n (getD a link 0)) refl (λ k. seek-part h (rest / 4) steps (getD a link 0 * 16 + 8 + rest % 4) k)))
+      (ap (pick (eqb (getD a link 0) 0) (Missing link)) (go (leb n (getD a link 0)) refl (λ k. seek-part test′ test same (rest / 4) steps (getD a link 0 * 16 + 8 + rest % 4) k)))
     where
       go : (b : Bool) → leb n (getD a link 0) ≡ b
           → (getD a link 0 * 16 + 8 + rest % 4 < n * 16
-          → seek (take (n * 16) a) n h (rest / 4) steps (getD a link 0 * 16 + 8 + rest % 4) ≡ seek a n h (rest / 4) steps (getD a link 0 * 16 + 8 + rest % 4))
-          → pick b Damaged (pick (hashIs (take (n * 16) a) (getD a link 0) h) (Node (getD a link 0)) (seek (take (n * 16) a) n h (rest / 4) steps (getD a link 0 * 16 + 8 + rest % 4)))
-          ≡ pick b Damaged (pick (hashIs a (getD a link 0) h) (Node (getD a link 0)) (seek a n h (rest / 4) steps (getD a link 0 * 16 + 8 + rest % 4)))
+          → seek test′ (take (n * 16) a) n (rest / 4) steps (getD a link 0 * 16 + 8 + rest % 4) ≡ seek test a n (rest / 4) steps (getD a link 0 * 16 + 8 + rest % 4))
+          → pick b Damaged (met (test′ (getD a link 0)) (Node (getD a link 0)) (seek test′ (take (n * 16) a) n (rest / 4) steps (getD a link 0 * 16 + 8 + rest % 4)))
+          ≡ pick b Damaged (met (test (getD a link 0)) (Node (getD a link 0)) (seek test a n (rest / 4) steps (getD a link 0 * 16 + 8 + rest % 4)))
       go true e ih = refl
       go false e ih =
           let low = leb-false n (getD a link 0) e in
-          rw (hash-part (getD a link 0) h low, ih (omega arith))
+          rw (same (getD a link 0) low, ih (omega arith))
 
   pub child-part : (i : ℕ) (k : Key ℕ) → i < n → childOf (take (n * 16) a) n i k ≡ childOf a n i k
   unfolding literalChild starChild
   child-part i star l = rw (inside-part i l, inside-whole i l, word-part i 3 l (omega arith))
-  child-part i (lit h) l = rw (inside-part i l, inside-whole i l) (seek-part h h n (i * 16 + 2) (omega arith))
+  child-part i (lit h) l = rw (inside-part i l, inside-whole i l) (seek-part (byHash (take (n * 16) a) h) (byHash a h) (λ j l. ap told (hash-part j h l)) h n (i * 16 + 2) (omega arith))
 
 -- the areas that hold a tree hold it within the table's counts
 pub holds-part : (a : List ℕ) (n m : ℕ) (ts : List ℕ) (ls : List (Line ℕ)) → Holds a n m ts ls → Holds (take (n * 16) a) n m (take m ts) ls

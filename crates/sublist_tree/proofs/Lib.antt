@@ -5,5 +5,6 @@ pub mod Bytes
 pub mod Route
 pub mod Counting
 pub mod Sorted
+pub mod Members
 pub mod Hash
 pub mod Rows

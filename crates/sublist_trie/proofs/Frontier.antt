@@ -9,19 +9,14 @@ use lib.ListN.{length, length-map}
 use borrow.Author.Tests.{eq-eqb, ne-eqb}
 use Rattle.sublist_tree.specs.Lists.{All}
 use Rattle.sublist_tree.specs.Tree.{Key, star, lit, Line, present, below, step, peak}
-use Rattle.sublist_trie.specs.Trie.{Trie, size, run, parentOf, child, Good, built, leftAt, keep, front}
+use Rattle.sublist_trie.specs.Trie.{Trie, size, run, parentOf, child, Good, leftAt, keep, front}
 use Rattle.sublist_trie.proofs.Runs.{size-pos, snoc-inj, run-root, child-less, child-parent, run-child}
-use Rattle.sublist_trie.proofs.Growth.{good-built}
-use Rattle.sublist_trie.proofs.Members.{Distinct, All-into}
-use Rattle.sublist_trie.proofs.Children.{child-none, child-some}
+use Rattle.sublist_tree.proofs.Members.{Distinct, All-into}
+use Rattle.sublist_trie.proofs.For.{For, leftOf, child-none, child-some}
 
 -- all are nodes of the tree
 abbrev pub Inside : {K : Type 0} → Trie K → List ℕ → Type 0
 Inside t fr = All (λ i. i < size t) fr
-
--- the lines left below node i of the tree of ls
-abbrev pub leftOf : {K : Type 0} → (K → K → Bool) → List (Line K) → ℕ → List (Line K)
-leftOf eq ls i = leftAt eq ls (run (built eq ls) i)
 
 -- the frontier after the tokens hs, by numbers and by lines
 abbrev pub fronts : {K : Type 0} → (K → K → Bool) → Trie K → List K → List ℕ → List ℕ
@@ -113,57 +108,57 @@ module _ {K : Type 0} (eq : K → K → Bool) where
     fronts-distinct t [] fr g d = d
     fronts-distinct t (h ∷ hs) fr g d = fronts-distinct t hs (front eq t h fr) g (front-distinct t h fr g d)
 
-    module _ (ls : List (Line K)) where
-      keep-present : (i : ℕ) (k : Key K) (fr : List ℕ) → i < size (built eq ls)
-          → map (leftOf eq ls) (keep eq (child eq (built eq ls) i k) fr) ≡ present (below eq k (leftOf eq ls i)) ++ map (leftOf eq ls) fr
-      keep-present i k fr h = go (ℕ-discrete (child eq (built eq ls) i k) 0)
+    module _ (ls : List (Line K)) (t : Trie K) (of : For eq ls t) where
+      keep-present : (i : ℕ) (k : Key K) (fr : List ℕ) → i < size t
+          → map (leftOf eq ls t) (keep eq (child eq t i k) fr) ≡ present (below eq k (leftOf eq ls t i)) ++ map (leftOf eq ls t) fr
+      keep-present i k fr h = go (ℕ-discrete (child eq t i k) 0)
         where
-          go : Dec (child eq (built eq ls) i k ≡ 0) → map (leftOf eq ls) (keep eq (child eq (built eq ls) i k) fr) ≡ present (below eq k (leftOf eq ls i)) ++ map (leftOf eq ls) fr
-          go (yes z) = rw (eq-eqb (child eq (built eq ls) i k) 0 z, child-none eq sound whole ls i k h z)
+          go : Dec (child eq t i k ≡ 0) → map (leftOf eq ls t) (keep eq (child eq t i k) fr) ≡ present (below eq k (leftOf eq ls t i)) ++ map (leftOf eq ls t) fr
+          go (yes z) = rw (eq-eqb (child eq t i k) 0 z, child-none eq sound whole ls t of i k h z)
           go (no ne) =
-              let s = child-some eq sound whole ls i k ne in
-              rw (ne-eqb (child eq (built eq ls) i k) 0 ne, s .1, present-some (below eq k (leftOf eq ls i)) (s .0))
+              let s = child-some eq sound whole ls t of i k ne in
+              rw (ne-eqb (child eq t i k) 0 ne, s .1, present-some (below eq k (leftOf eq ls t i)) (s .0))
 
       -- one token
-      pub front-step : (h : K) (fr : List ℕ) → Inside (built eq ls) fr → map (leftOf eq ls) (front eq (built eq ls) h fr) ≡ step eq h (map (leftOf eq ls) fr)
+      pub front-step : (h : K) (fr : List ℕ) → Inside t fr → map (leftOf eq ls t) (front eq t h fr) ≡ step eq h (map (leftOf eq ls t) fr)
       unfolding front
       front-step h [] a = refl
       front-step h (i ∷ fr) a =
-          keep-present i (lit h) (keep eq (child eq (built eq ls) i star) (front eq (built eq ls) h fr)) (a .0)
-          ∙ ap (λ l. present (below eq (lit h) (leftOf eq ls i)) ++ l)
-          (keep-present i star (front eq (built eq ls) h fr) (a .0) ∙ ap (λ l. present (below eq star (leftOf eq ls i)) ++ l) (front-step h fr (a .1)))
+          keep-present i (lit h) (keep eq (child eq t i star) (front eq t h fr)) (a .0)
+          ∙ ap (λ l. present (below eq (lit h) (leftOf eq ls t i)) ++ l)
+          (keep-present i star (front eq t h fr) (a .0) ∙ ap (λ l. present (below eq star (leftOf eq ls t i)) ++ l) (front-step h fr (a .1)))
 
       -- all tokens
-      pub fronts-steps : (hs : List K) (fr : List ℕ) → Inside (built eq ls) fr → map (leftOf eq ls) (fronts eq (built eq ls) hs fr) ≡ steps eq hs (map (leftOf eq ls) fr)
+      pub fronts-steps : (hs : List K) (fr : List ℕ) → Inside t fr → map (leftOf eq ls t) (fronts eq t hs fr) ≡ steps eq hs (map (leftOf eq ls t) fr)
       fronts-steps [] fr a = refl
-      fronts-steps (h ∷ hs) fr a = fronts-steps hs (front eq (built eq ls) h fr) (front-inside (built eq ls) h fr) ∙ ap (steps eq hs) (front-step h fr a)
+      fronts-steps (h ∷ hs) fr a = fronts-steps hs (front eq t h fr) (front-inside t h fr) ∙ ap (steps eq hs) (front-step h fr a)
 
-      pub widest-peak : (hs : List K) (fr : List ℕ) → Inside (built eq ls) fr → widest eq (built eq ls) hs fr ≡ peak eq hs (map (leftOf eq ls) fr)
-      widest-peak [] fr a = sym (length-map fr (leftOf eq ls))
+      pub widest-peak : (hs : List K) (fr : List ℕ) → Inside t fr → widest eq t hs fr ≡ peak eq hs (map (leftOf eq ls t) fr)
+      widest-peak [] fr a = sym (length-map fr (leftOf eq ls t))
       widest-peak (h ∷ hs) fr a =
-          rw (length-map fr (leftOf eq ls))
-          (ap (max (length fr)) (widest-peak hs (front eq (built eq ls) h fr) (front-inside (built eq ls) h fr) ∙ ap (peak eq hs) (front-step h fr a)))
+          rw (length-map fr (leftOf eq ls t))
+          (ap (max (length fr)) (widest-peak hs (front eq t h fr) (front-inside t h fr) ∙ ap (peak eq hs) (front-step h fr a)))
 
       -- ---- from the root
 
-      pub left-root : leftOf eq ls 0 ≡ ls
+      pub left-root : leftOf eq ls t 0 ≡ ls
       unfolding leftAt
-      left-root = rw (run-root (built eq ls))
+      left-root = rw (run-root t)
 
-      pub root-inside : Inside (built eq ls) (0 ∷ [])
-      root-inside = (size-pos (built eq ls), tt)
+      pub root-inside : Inside t (0 ∷ [])
+      root-inside = (size-pos t, tt)
 
-      pub root-fronts : (hs : List K) → map (leftOf eq ls) (fronts eq (built eq ls) hs (0 ∷ [])) ≡ steps eq hs (ls ∷ [])
+      pub root-fronts : (hs : List K) → map (leftOf eq ls t) (fronts eq t hs (0 ∷ [])) ≡ steps eq hs (ls ∷ [])
       root-fronts hs = fronts-steps hs (0 ∷ []) root-inside ∙ ap (λ n. steps eq hs (n ∷ [])) left-root
 
-      pub root-lengths : (hs : List K) → length (fronts eq (built eq ls) hs (0 ∷ [])) ≡ length (steps eq hs (ls ∷ []))
-      root-lengths hs = sym (length-map (fronts eq (built eq ls) hs (0 ∷ [])) (leftOf eq ls)) ∙ ap length (root-fronts hs)
+      pub root-lengths : (hs : List K) → length (fronts eq t hs (0 ∷ [])) ≡ length (steps eq hs (ls ∷ []))
+      root-lengths hs = sym (length-map (fronts eq t hs (0 ∷ [])) (leftOf eq ls t)) ∙ ap length (root-fronts hs)
 
-      pub root-inside-all : (hs : List K) → Inside (built eq ls) (fronts eq (built eq ls) hs (0 ∷ []))
-      root-inside-all hs = fronts-inside (built eq ls) hs (0 ∷ []) root-inside
+      pub root-inside-all : (hs : List K) → Inside t (fronts eq t hs (0 ∷ []))
+      root-inside-all hs = fronts-inside t hs (0 ∷ []) root-inside
 
-      pub root-distinct : (hs : List K) → Distinct (fronts eq (built eq ls) hs (0 ∷ []))
-      root-distinct hs = fronts-distinct (built eq ls) hs (0 ∷ []) (good-built eq sound whole ls) (tt, tt)
+      pub root-distinct : (hs : List K) → Distinct (fronts eq t hs (0 ∷ []))
+      root-distinct hs = fronts-distinct t hs (0 ∷ []) (of .good) (tt, tt)
 
-      pub root-peak : (hs : List K) → widest eq (built eq ls) hs (0 ∷ []) ≡ peak eq hs (ls ∷ [])
+      pub root-peak : (hs : List K) → widest eq t hs (0 ∷ []) ≡ peak eq hs (ls ∷ [])
       root-peak hs = widest-peak hs (0 ∷ []) root-inside ∙ ap (λ n. peak eq hs (n ∷ [])) left-root

@@ -1,7 +1,7 @@
-pub mod Members
 pub mod Runs
 pub mod Growth
 pub mod Left
+pub mod For
 pub mod Children
 pub mod Frontier
 pub mod Sizes

@@ -12,12 +12,11 @@ use Rattle.sublist_tree.specs.Tree.{Key, Line, line, count, runIs}
 use Rattle.sublist_tree.specs.Nodes.{runs, nodes}
 use Rattle.sublist_tree.proofs.Fork.{Within}
 use Rattle.sublist_tree.proofs.Counting.{runIs-sound, count-nodes}
-use Rattle.sublist_trie.specs.Trie.{Trie, size, run, Good, built, leftAt}
-use Rattle.sublist_trie.proofs.Members.{In, Distinct, All-in, in-left, in-right, in-append, distinct-in, in-distinct, distinct-once, as-many}
+use Rattle.sublist_trie.specs.Trie.{Trie, size, run, Good, leftAt}
+use Rattle.sublist_tree.proofs.Members.{In, Distinct, All-in, in-left, in-right, in-append, distinct-in, in-distinct, distinct-once, as-many}
 use Rattle.sublist_trie.proofs.Runs.{keyIs-same, size-pos, run-root, run-inj}
-use Rattle.sublist_trie.proofs.Growth.{good-built}
 use Rattle.sublist_trie.proofs.Left.{cons-nil, nil-left, nil-right, some-part, left-cons, left-none, left-own, left-begins}
-use Rattle.sublist_trie.proofs.Children.{At, node-left, left-at}
+use Rattle.sublist_trie.proofs.For.{At, For}
 
 in-map : {A B : Type 0} (f : A → B) (x : A) (xs : List A) → In x xs → In (f x) (map f xs)
 in-map f x [] m = absurd m
@@ -95,21 +94,6 @@ module _ {K : Type 0} (eq : K → K → Bool) (sound : (h g : K) → eq h g ≡ 
       go (inl m) ih = let w = left-begins eq sound whole r ks b x m in in-left r (prefixes ks) (runs ls) (rw (w .1) (in-prefixes r (w .0)))
       go (inr m) ih = in-right r (prefixes ks) (runs ls) (ih m)
 
-  -- the runs of the tree's nodes are the distinct runs
-  pub node-in : (ls : List (Line K)) (j : ℕ) → j < size (built eq ls) → In (run (built eq ls) j) (nodes eq ls)
-  node-in ls j h = in-distinct (runIs eq) (runIs-sound eq sound whole) runIs-same (run (built eq ls) j) ([] ∷ runs ls) (go (ℕ-discrete j 0))
-    where
-      go : Dec (j ≡ 0) → In (run (built eq ls) j) ([] ∷ runs ls)
-      go (yes z) = inl (rw z (run-root (built eq ls)))
-      go (no ne) = inr (left-runs ls (run (built eq ls) j) (node-left eq sound whole ls j (omega arith) h))
-
-  pub in-node : (ls : List (Line K)) (r : List (Key K)) → In r (nodes eq ls) → At (built eq ls) r
-  in-node ls r m = go (distinct-in (runIs eq) (runIs-sound eq sound whole) runIs-same r ([] ∷ runs ls) m)
-    where
-      go : In r ([] ∷ runs ls) → At (built eq ls) r
-      go (inl e) = (0, size-pos (built eq ls), run-root (built eq ls) ∙ sym e)
-      go (inr n) = left-at eq sound whole ls r (runs-left ls r n)
-
   labels-distinct : (t : Trie K) → Good eq t → (n : ℕ) → n ≤ size t → Distinct (labels t n)
   labels-distinct t g zero h = tt
   labels-distinct t g (suc n) h = (
@@ -118,16 +102,30 @@ module _ {K : Type 0} (eq : K → K → Bool) (sound : (h g : K) → eq h g ≡ 
     labels-distinct t g n (omega arith),
   )
 
-  pub size-nodes : (ls : List (Line K)) → size (built eq ls) ≡ length (nodes eq ls)
-  size-nodes ls =
-      sym (labels-length t (size t))
-      ∙ as-many (runIs eq) (runIs-sound eq sound whole) runIs-same (labels t (size t)) (nodes eq ls) (labels-distinct t (good-built eq sound whole ls) (size t) (omega arith))
-      (distinct-once (runIs eq) (runIs-sound eq sound whole) runIs-same ([] ∷ runs ls))
-      (λ r m. let w = labels-in t (size t) r m in rw (← w .2) (node-in ls (w .0) (w .1)))
-      (λ r m. let w = in-node ls r m in rw (← w .2) (in-labels t (size t) (w .0) (w .1)))
-    where
-      t : Trie K
-      t = built eq ls
+  -- a tree that belongs to the lines
+  module _ (ls : List (Line K)) (t : Trie K) (of : For eq ls t) where
+    -- the runs of the tree's nodes are the distinct runs
+    pub node-in : (j : ℕ) → j < size t → In (run t j) (nodes eq ls)
+    node-in j h = in-distinct (runIs eq) (runIs-sound eq sound whole) runIs-same (run t j) ([] ∷ runs ls) (go (ℕ-discrete j 0))
+      where
+        go : Dec (j ≡ 0) → In (run t j) ([] ∷ runs ls)
+        go (yes z) = inl (rw z (run-root t))
+        go (no ne) = inr (left-runs ls (run t j) (of .node-left j (omega arith) h))
 
-  pub size-count : (d : ℕ) (ls : List (Line K)) → Within d ls → size (built eq ls) ≡ count eq d ls
-  size-count d ls a = size-nodes ls ∙ sym (count-nodes eq sound whole d ls a)
+    pub in-node : (r : List (Key K)) → In r (nodes eq ls) → At t r
+    in-node r m = go (distinct-in (runIs eq) (runIs-sound eq sound whole) runIs-same r ([] ∷ runs ls) m)
+      where
+        go : In r ([] ∷ runs ls) → At t r
+        go (inl e) = (0, size-pos t, run-root t ∙ sym e)
+        go (inr n) = of .left-at r (runs-left ls r n)
+
+    pub size-nodes : size t ≡ length (nodes eq ls)
+    size-nodes =
+        sym (labels-length t (size t))
+        ∙ as-many (runIs eq) (runIs-sound eq sound whole) runIs-same (labels t (size t)) (nodes eq ls) (labels-distinct t (of .good) (size t) (omega arith))
+        (distinct-once (runIs eq) (runIs-sound eq sound whole) runIs-same ([] ∷ runs ls))
+        (λ r m. let w = labels-in t (size t) r m in rw (← w .2) (node-in (w .0) (w .1)))
+        (λ r m. let w = in-node r m in rw (← w .2) (in-labels t (size t) (w .0) (w .1)))
+
+    pub size-count : (d : ℕ) → Within d ls → size t ≡ count eq d ls
+    size-count d a = size-nodes ∙ sym (count-nodes eq sound whole d ls a)

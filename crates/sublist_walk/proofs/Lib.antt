@@ -10,3 +10,4 @@ pub mod Writing
 pub mod Narrow
 pub mod Frontiers
 pub mod Held
+pub mod Outputs

@@ -8,6 +8,7 @@ use Rattle.subject.specs.Choice.{pick, or}
 use Rattle.sublist_area.specs.declared.Child.{Child}
 use Rattle.sublist_area.specs.declared.Child.the-variants.{Node, Missing, Damaged}
 use Rattle.sublist_area.specs.Words.{word, literalChild, starChild}
+use Rattle.sublist_tree.specs.Tree.{Key, star, lit}
 
 -- count elements from a place on
 abbrev pub part : List ℕ → ℕ → ℕ → List ℕ
@@ -89,3 +90,24 @@ module _ (limit : ℕ) (a : List ℕ) (n m : ℕ) (ts : List ℕ) where
   -- from the root alone
   unfoldable pub walkOver : List ℕ → Walked
   walkOver hs = ended (onTokens (at (0 ∷ []) [] 1) hs)
+
+-- the same for tokens of any kind: `look i k` is what the lookup by k at node i says
+module _ {K : Type 0} (look : ℕ → Key K → Child) (limit : ℕ) (a : List ℕ) (n m : ℕ) (ts : List ℕ) where
+  unfoldable pub visitBy : K → Level → ℕ → Level
+  visitBy h s i = push limit (push limit (collect a m ts 6 i s) (look i (lit h))) (look i star)
+
+  unfoldable pub visitsBy : K → Level → List ℕ → Level
+  visitsBy h s [] = s
+  visitsBy h s (i ∷ is) = visitsBy h (visitBy h s i) is
+
+  unfoldable pub onTokenBy : Walk → K → Walk
+  onTokenBy (at front list peak) h = arrived limit a n m ts peak (visitsBy h (level [] list) front)
+  onTokenBy tooWide h = tooWide
+  onTokenBy broken h = broken
+
+  unfoldable pub onTokensBy : Walk → List K → Walk
+  onTokensBy w [] = w
+  onTokensBy w (h ∷ hs) = onTokensBy (onTokenBy w h) hs
+
+  unfoldable pub walkBy : List K → Walked
+  walkBy hs = ended limit a n m ts (onTokensBy (at (0 ∷ []) [] 1) hs)

@@ -43,13 +43,13 @@ use denote.Triple.Table.{entered, cited}
 use denote.Triple.Walked.{says, Stays, stay-none, stay-none-slice, gave-slice, walkOf, goes-none, goes-none-slice, goes-gave-slice, Walks, ends-at, walked, walk-meets}
 use denote.Exit.{yes}
 use denote.Signature.{plain}
-use Rattle.sublist.specs.declared.Entry.{Entry}
+use Rattle.sublist_entries.specs.declared.Entry.{Entry}
 use Rattle.sublist.specs.declared.Built.{Built}
 use Rattle.sublist.specs.Flat.{flat}
 use Rattle.sublist.proofs.Local.{zeros, zeros-length, big-lit, array-cells, zeros-typed, cells-room}
-use Rattle.sublist.proofs.Sizes.{mostNumbers, most-fit, few-fit}
+use Rattle.sublist_entries.proofs.Sizes.{mostNumbers, most-fit, few-fit}
 use Rattle.sublist.proofs.Whole.{Told, Means, means}
-use Rattle.sublist.proofs.Entry as T
+use Rattle.sublist_entries.proofs.Entry as T
 use Rattle.sublist.proofs.unpack as unpack
 use Rattle.sublist.proofs.unpack.Symbol as unpack-def
 use Rattle.sublist.proofs.unpack.Symbol.{name as #sublist·unpack}

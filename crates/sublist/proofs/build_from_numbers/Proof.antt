@@ -1,7 +1,7 @@
 -- `sublist::build_from_numbers` meets its contract: the core reads each whole three of the numbers.
 use mathlib.Core.Path.{_∙_}
 use borrow.Author.Needs.{needs}
-use Rattle.sublist.proofs.Numbered.{numbers-say, numbers-leave}
+use Rattle.sublist.proofs.Numbered.{numbers-build}
 use Rattle.sublist.proofs.build_from_numbers.Statement.{statement}
 use Rattle.sublist.proofs.build_from_numbers.Tie as tie
 
@@ -18,7 +18,10 @@ same-length-2 : tie.Need-same-length-2
 same-length-2 c = search needs
 
 returns : tie.Need-returns
-returns c = (c .before .before .before .before .before .build-words .ensures .0 ∙ numbers-say (c .before .before .before .before .before .before .before .before .before .before .before .before .before .args .words .now) (c .before .before .before .before .before .before .before .before .before .before .before .before .before .args .store .now) (c .before .before .before .before .before .before .before .before .before .before .before .before .before .args .nodes .now) _ _, c .before .before .before .before .before .build-words .ensures .1 ∙ numbers-leave (c .before .before .before .before .before .before .before .before .before .before .before .before .before .args .words .now) (c .before .before .before .before .before .before .before .before .before .before .before .before .before .args .store .now) (c .before .before .before .before .before .before .before .before .before .before .before .before .before .args .nodes .now) _)
+returns c =
+    let core = c .before .before .before .before .before in
+    let a = core .before .before .before .before .before .before .before .before .args in
+    core .build-words .ensures ∙ numbers-build (a .words .now) (a .store .now) (a .node-words .now) (a .target-words .now) (a .generation)
 
 pub build-from-numbers-spec : {M : Type 1} → statement M
 build-from-numbers-spec =

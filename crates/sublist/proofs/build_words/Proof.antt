@@ -67,7 +67,7 @@ returns-3 c =
     let n = f .before .before .before .before .before .before in
     let d = n .before .before .before in
     let k = d .before .before in
-    all-sound _ _ _ _ _ _ (k .before .if1 .left) _ (k .check-entries .ensures) (d .enum-told .given .1) _ (rw (f .enum-told2 .given .1) at (n .grow-table .ensures .0)) _ _ (rw (c .nodes-needed .ensures) refl) refl
+    all-sound _ _ _ _ _ _ (k .before .if1 .left) _ (k .check-entries .ensures) (d .enum-told .given .1) _ (rw (f .enum-told2 .given .1) at (n .grow-table .ensures .0)) _ (rw (c .nodes-needed .ensures) refl)
 
 same-length-3 : tie.Need-same-length-3
 same-length-3 c = search needs
@@ -85,7 +85,7 @@ returns-4 c =
     let n = t .before .before .before .before .before .before in
     let d = n .before .before .before in
     let k = d .before .before in
-    all-sound _ _ _ _ _ _ (k .before .if1 .left) _ (k .check-entries .ensures) (d .enum-told .given .1) _ (rw (t .total .given .1) at (n .grow-table .ensures .0)) _ _ (f .finish .ensures .0) (f .finish .ensures .1)
+    all-sound _ _ _ _ _ _ (k .before .if1 .left) _ (k .check-entries .ensures) (d .enum-told .given .1) _ (rw (t .total .given .1) at (n .grow-table .ensures .0)) _ (f .finish .ensures)
 
 pub build-words-spec : {M : Type 1} → statement M
 build-words-spec =

@@ -5,7 +5,7 @@ use mathlib.Core.Path.{_≡_}
 use borrow.Author.Needs.{needs}
 use lib.ListN.{drop}
 use Rattle.sublist.specs.Building.{badEntries}
-use Rattle.sublist.specs.Flat.{unflat}
+use Rattle.sublist_entries.specs.Numbers.{unflat}
 use Rattle.sublist.proofs.Checks.{checks-end, checks-on, checks-bad}
 use Rattle.sublist.proofs.check_entries.Statement.{statement}
 use Rattle.sublist.proofs.check_entries.Tie as tie

@@ -1,7 +1,7 @@
 -- `sublist::finish` meets its contract. Assumes nothing.
 use mathlib.Core.Path.{_∙_}
 use borrow.Author.Needs.{needs}
-use Rattle.sublist.specs.Flat.{unflat}
+use Rattle.sublist_entries.specs.Numbers.{unflat}
 use Rattle.sublist.specs.Core.{endsOf, targetsOf}
 use Rattle.sublist.proofs.Stages.{short-targets, over-limit, within-limit}
 use Rattle.sublist.proofs.finish.Statement.{statement}

@@ -1,7 +1,7 @@
 -- `sublist::grow_table` meets its contract. Assumes nothing.
 use mathlib.Core.Path.{_∙_}
 use borrow.Author.Needs.{needs}
-use Rattle.sublist.specs.Flat.{unflat}
+use Rattle.sublist_entries.specs.Numbers.{unflat}
 use Rattle.sublist.proofs.Stages.{rooted-at, rooted-full, rooted-broken, grow-room, grow-short}
 use Rattle.sublist.proofs.grow_table.Statement.{statement}
 use Rattle.sublist.proofs.grow_table.Tie as tie

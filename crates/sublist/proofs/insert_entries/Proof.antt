@@ -7,10 +7,10 @@ use mathlib.Core.List.{[]}
 use mathlib.Core.Option.{none}
 use borrow.Author.Needs.{needs}
 use lib.ListN.{length, drop, length-set}
-use Rattle.sublist.specs.Entries.{linesOf}
+use Rattle.sublist_entries.specs.Entries.{linesOf}
 use Rattle.sublist.specs.Building.{badEntries}
 use Rattle.sublist.specs.Passes.{growth, linesIn}
-use Rattle.sublist.specs.Flat.{unflat}
+use Rattle.sublist_entries.specs.Numbers.{unflat}
 use Rattle.sublist.specs.Core.{endsOf, EndBelow}
 use Rattle.sublist.proofs.Checks.{sound-inside, sound-on}
 use Rattle.sublist.proofs.Lines.{lines-end, lines-stop, lines-on, below-more, end-node}

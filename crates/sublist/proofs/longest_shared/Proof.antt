@@ -4,7 +4,7 @@ use mathlib.Core.Path.{_≡_, sym, _∙_, ap}
 use mathlib.Core.Logic.{⊎-elim}
 use Prim.Native.Nat.{_≤_, _-_}
 use native.Mathlib.Omega.{arith}
-use Rattle.sublist.specs.Flat.{unflat}
+use Rattle.sublist_entries.specs.Numbers.{unflat}
 use Rattle.sublist.specs.Sharing.{longest}
 use Rattle.sublist.proofs.OneMore.{longest-none, longest-next}
 use Rattle.sublist.proofs.longest_shared.Statement.{statement}

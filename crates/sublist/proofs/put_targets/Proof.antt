@@ -6,7 +6,7 @@ use mathlib.Core.Path.{_≡_, refl, sym, _∙_}
 use borrow.Author.Needs.{needs}
 use lib.ListN.{length, drop}
 use Rattle.sublist.specs.Passes.{filling, filled}
-use Rattle.sublist.specs.Flat.{unflat}
+use Rattle.sublist_entries.specs.Numbers.{unflat}
 use Rattle.sublist.specs.Core.{endsOf, targetsOf}
 use Rattle.sublist.proofs.Turns.{fill-on, fill-end}
 use Rattle.sublist.proofs.put_targets.Statement.{statement}

@@ -49,17 +49,18 @@ use denote.Triple.Statement.{Contract, Triple}
 use denote.Triple.Table.{entered, cited}
 use denote.Triple.Walked.{says, needs, Stays, stay-none, stay-none-slice, stay-slice, walkOf, goes-none, goes-none-slice, goes-slice, Walks, ends-at, walked, walk-meets}
 use denote.Exit.{yes}
-use Rattle.sublist.specs.declared.Entry.{Entry}
-use Rattle.sublist.specs.Flat.{noEntry, putEntry}
+use Rattle.sublist_entries.specs.declared.Entry.{Entry}
+use Rattle.sublist_entries.specs.Numbers.{putEntry}
+use Rattle.sublist_entries.specs.Placing.{noEntry}
 use Rattle.sublist.proofs.Again.{LentAgain, lends-again, comes-back}
-use Rattle.sublist.proofs.Sizes.{entryBytes, place-fits, next-fits}
-use Rattle.sublist.proofs.Filled.{filled, filled-length, filled-first, RoomFor, room-at}
-use Rattle.sublist.proofs.Entry as T
-use Rattle.sublist.proofs.Entry.Laws as T′
-use Rattle.sublist.proofs.put_entry as put
-use Rattle.sublist.proofs.put_entry.Symbol as put-def
-use Rattle.sublist.proofs.put_entry.Symbol.{name as #sublist·put-entry}
-use Rattle.sublist.proofs.put_entry.Met as put-thm
+use Rattle.sublist_entries.proofs.Sizes.{entryBytes, place-fits, next-fits}
+use Rattle.sublist.proofs.Filled.{filled, filled-length, filled-first, RoomFor}
+use Rattle.sublist_entries.proofs.Entry as T
+use Rattle.sublist_entries.proofs.Entry.Laws as T′
+use Rattle.sublist_entries.proofs.put_entry as put
+use Rattle.sublist_entries.proofs.put_entry.Symbol as put-def
+use Rattle.sublist_entries.proofs.put_entry.Symbol.{name as #put-entry}
+use Rattle.sublist_entries.proofs.put_entry.Met as put-thm
 use Rattle.sublist.proofs.unpack.Key.{name as #unpack}
 use Rattle.sublist.proofs.unpack as unpack
 use Rattle.sublist.proofs.unpack.Statement as stated
@@ -140,7 +141,7 @@ module _ {M : Type 1} (𝓤 : URA M) (H : Heap 𝓤) (A : Atoms 𝓤) (W : Given
       -- [what words owns; what entries owns]
       nothing ! $ move ! (1 ∷ 0 ∷ []) $ fjoin ! $ owned ! usize (Is usize) (uint-makes 𝓤 H A W w64) n _ (refl, fits) $ fjoin ! $ move ! (1 ∷ 0 ∷ []) $ fjoin ! $ frame ! $ feqI ! (List Val) (vunit ∷ []) (vunit ∷ []) refl $ done !
 
-  module _ (𝓣 : Tables 𝓤 H) (known : Triple 𝓤 (𝓣 .C #sublist·put-entry) (Put 𝓤 H A mem run)) (gn : Room E (length ys)) (gi : n < 2 ^ 64) (gm : Room usize (length ws)) (few : n ≤ length ys) (room : RoomFor n (length ws)) (s : Share) (l₀ l₁ l₂ l₃ l₄ l₅ l₆ l₇ l₈ l₉ l₁₀ l₁₁ : ℕ) where
+  module _ (𝓣 : Tables 𝓤 H) (known : Triple 𝓤 (𝓣 .C #put-entry) (Put 𝓤 H A mem run)) (gn : Room E (length ys)) (gi : n < 2 ^ 64) (gm : Room usize (length ws)) (few : n ≤ length ys) (room : RoomFor n (length ws)) (s : Share) (l₀ l₁ l₂ l₃ l₄ l₅ l₆ l₇ l₈ l₉ l₁₀ l₁₁ : ℕ) where
     abbrev C : Calls 𝓤 H
     C = 𝓣 .C
 
@@ -200,7 +201,7 @@ module _ {M : Type 1} (𝓤 : URA M) (H : Heap 𝓤) (A : Atoms 𝓤) (W : Given
       Asked ν δ = owns (MutSlice (named 0) (ν ∷ []) usize ∷ usize ∷ E ∷ []) (xo δ (zs i), (i, (elem, tt))) (vo ∷ [], (vint w64 i ∷ [], (mach ∷ [], tt)))
 
       goes-put : (ν : ℕ) (δ : GName) → ent 𝓤 (sep 𝓤 (sep 𝓤 (A .lft (ν ∷ []) fullShare) (sem 𝓤 H A ftrue)) (sem 𝓤 H A (Asked ν δ))) (Put 𝓤 H A mem run .pre (to-put ν δ))
-      goes-put ν δ = qed W ((‵ (flft (ν ∷ []) fullShare) ⊛ ‵ ftrue) ∷ ‵ (Asked ν δ) ∷ []) ∵ says ! (room-at n i (length (zs i)) (subst (RoomFor n) (sym (filled-length ys ws i)) room) small) $ frame ! $ done !
+      goes-put ν δ = qed W ((‵ (flft (ν ∷ []) fullShare) ⊛ ‵ ftrue) ∷ ‵ (Asked ν δ) ∷ []) ∵ join ! $ frame ! $ done !
 
       -- a turn
       more : (X : SProp 𝓤) → ent 𝓤 (⋆ 𝓤 H A (At (suc i))) X → ent 𝓤 (⋆ 𝓤 H A (At i)) (Wp 𝓤 H C Λ En piece.turn-1 (afterTurn 𝓤 H X Left))
@@ -289,7 +290,7 @@ module _ {M : Type 1} (𝓤 : URA M) (H : Heap 𝓤) (A : Atoms 𝓤) (W : Given
         (loop-rule 𝓤 H (W .laws) 𝓣 _<_ (Nat·lt-wfRel .wf) En piece.turn-1 Left Inv turns n)
 
   -- the MIR, up to the loop: entries is looked into once, before it
-  walk : (𝓣 : Tables 𝓤 H) → Triple 𝓤 (𝓣 .C #sublist·put-entry) (Put 𝓤 H A mem run) → Room E (length ys) → n < 2 ^ 64 → Room usize (length ws) → (n ≤ length ys) × RoomFor n (length ws) → ent 𝓤 (onEntry 𝓤 H A unpack.signature (κ, (κ′, tt)) (q, (q′, tt)) x at)
+  walk : (𝓣 : Tables 𝓤 H) → Triple 𝓤 (𝓣 .C #put-entry) (Put 𝓤 H A mem run) → Room E (length ys) → n < 2 ^ 64 → Room usize (length ws) → (n ≤ length ys) × RoomFor n (length ws) → ent 𝓤 (onEntry 𝓤 H A unpack.signature (κ, (κ′, tt)) (q, (q′, tt)) x at)
       (WpFn 𝓤 H (𝓣 .C) (𝓣 .Λ) code.function (sliceVal (b, o) (length ys) ∷ vint w64 n ∷ vo ∷ []) Post)
   walk 𝓣 known gn gi gm room =
       qed W ((‵ (flft κ q) ⊛ (‵ (flft κ′ q′) ⊛ ‵ ftrue)) ∷ ‵ (owns (ShrSlice (named 0) κ E ∷ usize ∷ MutSlice (named 1) κ′ usize ∷ []) x at) ∷ []) ∵ enter ! (𝓣 .C) (𝓣 .Λ) code.function (sliceVal (b, o) (length ys) ∷ vint w64 n ∷ vo ∷ []) _ $
@@ -309,12 +310,12 @@ module _ {M : Type 1} (𝓤 : URA M) (H : Heap 𝓤) (A : Atoms 𝓤) (W : Given
       by ! (loops 𝓣 known gn gi gm (room .0) (room .1) s l₀ l₁ l₂ l₃ l₄ l₅ l₆ l₇ l₈ l₉ l₁₀ l₁₁))))))))))))))
 
 module _ {M : Type 1} (𝓤 : URA M) (H : Heap 𝓤) (A : Atoms 𝓤) (W : Given 𝓤 H A) (mem : Memory → SProp 𝓤) (run : Routine → Fun 𝓤) where
-  unpack-walks : (𝓣 : Tables 𝓤 H) → Triple 𝓤 (𝓣 .C #sublist·put-entry) (Put 𝓤 H A mem run) → Walks 𝓤 H A unpack.ended stayed (WpFn 𝓤 H (𝓣 .C) (𝓣 .Λ) code.function) (unpack.clauses 𝓤 H A mem run)
+  unpack-walks : (𝓣 : Tables 𝓤 H) → Triple 𝓤 (𝓣 .C #put-entry) (Put 𝓤 H A mem run) → Walks 𝓤 H A unpack.ended stayed (WpFn 𝓤 H (𝓣 .C) (𝓣 .Λ) code.function) (unpack.clauses 𝓤 H A mem run)
   unpack-walks 𝓣 known = walked 𝓤 H A unpack.ended stayed (unpack.clauses 𝓤 H A mem run) (WpFn 𝓤 H (𝓣 .C) (𝓣 .Λ) code.function) (λ κs. (slice-vals, (uint-vals w64, (slice-vals, tt)))) (λ κs. (shr-slice-tells (named 0) (κs .0) E, (uint-tells w64, (mut-slice-tells (named 1) (κs .1 .0) usize, tt))))
       (λ κs qs bounds a g are. needs 𝓤 _ _
       (walk 𝓤 H A W mem run (κs .0) (κs .1 .0) (qs .0) (qs .1 .0) (a .0 .ptr .0) (a .0 .ptr .1) (a .0 .name) (a .0 .now) (a .1 .0) (a .1 .1 .0 .ptr .0) (a .1 .1 .0 .ptr .1) (a .1 .1 .0 .name) (a .1 .1 .0 .now) 𝓣 known (are .0 .0 .1) (are .1 .0 .1) (are .1 .1 .0 .0 .1)))
 
-unpack-meets : {M : Type 1} (𝓤 : URA M) (H : Heap 𝓤) (A : Atoms 𝓤) → Given 𝓤 H A → (mem : Memory → SProp 𝓤) (run : Routine → Fun 𝓤) (𝓣 : Tables 𝓤 H) → Triple 𝓤 (𝓣 .C #sublist·put-entry) (Put 𝓤 H A mem run)
+unpack-meets : {M : Type 1} (𝓤 : URA M) (H : Heap 𝓤) (A : Atoms 𝓤) → Given 𝓤 H A → (mem : Memory → SProp 𝓤) (run : Routine → Fun 𝓤) (𝓣 : Tables 𝓤 H) → Triple 𝓤 (𝓣 .C #put-entry) (Put 𝓤 H A mem run)
     → Meets 𝓤 H A unpack.signature (WpFn 𝓤 H (𝓣 .C) (𝓣 .Λ) code.function) (unpack.spec 𝓤 H A mem run)
 unpack-meets 𝓤 H A W mem run 𝓣 known =
     walk-meets 𝓤 H A unpack.ended stayed W (goes-none-slice 𝓤 H A W 2 (0 ∷ []) tt (plain (λ _. E)) yes, (goes-none 𝓤 H A W 2 (λ _. usize) yes (λ κs x f. refl), (goes-slice 𝓤 H A W 2 1 tt (plain (λ _. usize)), tt))) (unpack.clauses 𝓤 H A mem run)
@@ -326,4 +327,4 @@ unpack-spec 𝓤 H 𝓜 𝓖 𝓡 =
     entered 𝓤 H (tripleOf 𝓤 H (𝓖 .A) unpack.signature (unpack.spec 𝓤 H (𝓖 .A) (𝓜 .mem) (𝓡 .run)))
     (tables 𝓤 H 𝓜 𝓡 code.env .C) (tables 𝓤 H 𝓜 𝓡 code.env .Λ) #unpack code.function (code.unfolded 𝓤 H 𝓜 𝓡)
     (unpack-meets 𝓤 H (𝓖 .A) (givenOf 𝓤 H 𝓜 𝓖) (𝓜 .mem) (𝓡 .run) (tablesOf 𝓤 H 𝓜 (tables 𝓤 H 𝓜 𝓡 code.env))
-    (cited 𝓤 H (Put 𝓤 H (𝓖 .A) (𝓜 .mem) (𝓡 .run)) 𝓜 𝓡 code.env #sublist·put-entry put-def.routine code.calls-sublist·put-entry (put-thm.met 𝓤 H 𝓜 𝓖 𝓡)))
+    (cited 𝓤 H (Put 𝓤 H (𝓖 .A) (𝓜 .mem) (𝓡 .run)) 𝓜 𝓡 code.env #put-entry put-def.routine code.calls-sublist-entries·put-entry (put-thm.met 𝓤 H 𝓜 𝓖 𝓡)))

@@ -1,17 +1,17 @@
 -- `sublist_area::seek_sibling` meets its contract. The loop's invariant: the search from here, with the steps left, gives what the search from the start gives. Assumes nothing.
 use Prim.Native.Nat.{_*_, _<_, _≤_}
 use native.Mathlib.Omega.{arith}
-use mathlib.Core.Path.{_≡_, refl, sym, _∙_}
+use mathlib.Core.Path.{_≡_, refl, sym, _∙_, ap}
 use lib.ListN.{getD}
 use borrow.Author.Needs.{needs}
-use Rattle.sublist_area.specs.Words.{seek}
+use Rattle.sublist_area.specs.Words.{told, byHash, seek}
 use Rattle.sublist_area.proofs.Turns.{at-none, at-spent, at-out, at-hit, at-next}
 use Rattle.sublist_area.proofs.seek_sibling.Statement.{statement}
 use Rattle.sublist_area.proofs.seek_sibling.Tie as tie
 
 abbrev Inv-loop : tie.InvT-loop
 Inv-loop area count start hash link₀ rest₀ left₀ id₀ link rest left id =
-    (seek area count hash hash count start ≡ seek area count hash rest left link) × (id ≡ getD area link 0) × (link < count * 16) × (left ≤ count)
+    (seek (byHash area hash) area count hash count start ≡ seek (byHash area hash) area count rest left link) × (id ≡ getD area link 0) × (link < count * 16) × (left ≤ count)
 
 abbrev μ-loop : tie.MeasureT-loop
 μ-loop area count start hash link₀ rest₀ left₀ id₀ link rest left id = left
@@ -50,7 +50,7 @@ returns-3 c =
     at-hit _ _ _ _ (l .rest) (l .left) (l .link) (l .id) (l .inv .0) (l .inv .1) (k .before .before .if1 .left)
     (k .before .before .before .loop-test .taken)
     (omega arith)
-    (sym (rw (k .before .wide .ensures) at (c .before .has-hash .ensures)) ∙ c .if3 .taken)
+    (ap told (sym (rw (k .before .wide .ensures) at (c .before .has-hash .ensures)) ∙ c .if3 .taken))
 
 mul-link : tie.Need-mul-link Inv-loop μ-loop
 mul-link c = search needs
@@ -81,7 +81,7 @@ loop-again c =
           (at-next _ _ _ _ (l .rest) (l .left) (l .link) (l .id) (l .inv .0) (l .inv .1) (k .before .before .if1 .left)
           (k .before .before .before .loop-test .taken)
           (omega arith)
-          (sym (rw (k .before .wide .ensures) at (c .before .before .has-hash .ensures)) ∙ c .before .if3 .left)),
+          (ap told (sym (rw (k .before .wide .ensures) at (c .before .before .has-hash .ensures)) ∙ c .before .if3 .left))),
       refl,
       search needs,
       search needs,

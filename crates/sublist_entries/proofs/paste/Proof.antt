@@ -1,4 +1,4 @@
--- `sublist::paste` meets its contract: after i turns the first i bytes of the text are copied.
+-- `sublist_entries::paste` meets its contract: after i turns the first i bytes of the text are copied.
 use mathlib.Core.Path.{_≡_, sym, _∙_, ap, subst}
 use Prim.Native.Nat.{ℕ, zero, suc, _+_, _-_, _<_, _≤_}
 use native.Mathlib.Omega.{arith}
@@ -6,9 +6,9 @@ use mathlib.Core.List.{List, _++_, append-assoc}
 use lib.ListN.{length, getD, set, take, drop}
 use lib.Seq.{paste, paste-zero, paste-suc, length-paste, take-length}
 use borrow.Author.Needs.{needs}
-use Rattle.sublist.specs.Inserting.{put}
-use Rattle.sublist.proofs.paste.Statement.{statement}
-use Rattle.sublist.proofs.paste.Tie as tie
+use Rattle.sublist_tree.specs.Lists.{put}
+use Rattle.sublist_entries.proofs.paste.Statement.{statement}
+use Rattle.sublist_entries.proofs.paste.Tie as tie
 
 pasted-length : (d : List ℕ) (at : ℕ) (s : List ℕ) (i : ℕ) → i ≤ length s → length s ≤ length d - at → length (paste d at s i) ≡ length d
 pasted-length d at s zero h k = ap length (sym (paste-zero d at s))

@@ -1,4 +1,4 @@
--- `sublist::insert` meets its contract: a walk of its MIR, by hand, with a branch. `place` decides, and is known by its contract alone. `store` goes to it at its own lifetime (`gave-slice`), and of `pattern`, which is Copy, a copy.
+-- `sublist_entries::insert` meets its contract: a walk of its MIR, by hand, with a branch. `place` decides, and is known by its contract alone. `store` goes to it at its own lifetime (`gave-slice`), and of `pattern`, which is Copy, a copy.
 -- The branch is `types.Run`'s `branches`: an arm where the entry is stored, and an arm that does nothing. Both end in the same context but for the entries, and `leaves` goes on from there, once for both.
 use mathlib.Core.Path.{_≡_, refl, sym, ap, subst}
 use Prim.Native.Nat.{ℕ, _*_, _<_, _^_}
@@ -42,30 +42,29 @@ use denote.Triple.Clauses.{ensured, lasts}
 use denote.Triple.Table.{entered, cited}
 use denote.Triple.Walked.{says, Stays, stay-none, stay-none-slice, stay-slice, gave-slice, walkOf, goes-none, goes-none-slice, goes-slice, goes-gave-slice, Walks, ends-at, walked, walk-meets}
 use denote.Exit.{yes}
-use Rattle.sublist.specs.declared.Entry.{Entry}
-use Rattle.sublist.specs.declared.ListState.{ListState}
-use Rattle.sublist.specs.declared.Placing.{Placing}
-use Rattle.sublist.specs.Flat.{noEntry}
-use Rattle.sublist.specs.Inserting.{entriesAfter}
-use Rattle.sublist.proofs.Sizes.{entryBytes, place-fits}
-use Rattle.sublist.proofs.Deciding.{Told, written, kept, stored}
-use Rattle.sublist.proofs.Entry as T
-use Rattle.sublist.proofs.Entry.Laws as T′
-use Rattle.sublist.proofs.ListState as L
-use Rattle.sublist.proofs.ListState.Laws as L′
-use Rattle.sublist.proofs.Placing as P
-use Rattle.sublist.proofs.Placing.Laws as P′
-use Rattle.sublist.proofs.Inserted as I
-use Rattle.sublist.proofs.Inserted.Laws as I′
-use Rattle.sublist.proofs.place as place
-use Rattle.sublist.proofs.place.Symbol as place-def
-use Rattle.sublist.proofs.place.Symbol.{name as #sublist·place}
-use Rattle.sublist.proofs.place.Met as place-thm
-use Rattle.sublist.proofs.insert.Key.{name as #sublist·insert}
-use Rattle.sublist.proofs.insert as insert
-use Rattle.sublist.proofs.insert.Statement as stated
-use Rattle.sublist.proofs.insert.Code as code
-use Rattle.sublist.proofs.insert.Code.Mir as piece
+use Rattle.sublist_entries.specs.declared.Entry.{Entry}
+use Rattle.sublist_entries.specs.declared.ListState.{ListState}
+use Rattle.sublist_entries.specs.declared.Placing.{Placing}
+use Rattle.sublist_entries.specs.Placing.{noEntry, Decides}
+use Rattle.sublist_entries.proofs.Sizes.{entryBytes, place-fits}
+use Rattle.sublist_entries.proofs.Deciding.{Told, Leaves, entry-written, entry-unwritten}
+use Rattle.sublist_entries.proofs.Entry as T
+use Rattle.sublist_entries.proofs.Entry.Laws as T′
+use Rattle.sublist_entries.proofs.ListState as L
+use Rattle.sublist_entries.proofs.ListState.Laws as L′
+use Rattle.sublist_entries.proofs.Placing as P
+use Rattle.sublist_entries.proofs.Placing.Laws as P′
+use Rattle.sublist_entries.proofs.Inserted as I
+use Rattle.sublist_entries.proofs.Inserted.Laws as I′
+use Rattle.sublist_entries.proofs.place as place
+use Rattle.sublist_entries.proofs.place.Symbol as place-def
+use Rattle.sublist_entries.proofs.place.Symbol.{name as #sublist_entries·place}
+use Rattle.sublist_entries.proofs.place.Met as place-thm
+use Rattle.sublist_entries.proofs.insert.Key.{name as #sublist_entries·insert}
+use Rattle.sublist_entries.proofs.insert as insert
+use Rattle.sublist_entries.proofs.insert.Statement as stated
+use Rattle.sublist_entries.proofs.insert.Code as code
+use Rattle.sublist_entries.proofs.insert.Code.Mir as piece
 
 abbrev E : RattleType
 E = T.the-row
@@ -160,12 +159,12 @@ module _ {M : Type 1} (𝓤 : URA M) (H : Heap 𝓤) (A : Atoms 𝓤) (W : Given
   goes-place : ent 𝓤 (sep 𝓤 (sep 𝓤 (A .lft κ₁ q₁) (sep 𝓤 (A .lft κ₂ q₂) (sem 𝓤 H A ftrue))) (sem 𝓤 H A Asked)) (Place 𝓤 H A mem run .pre to-place)
   goes-place = qed W (Two ∷ ‵ Asked ∷ []) ∵ join ! $ frame ! $ done !
 
-  exits : (p : Placing) (zs : List Entry) (us : List ℕ) → Is I.the-row (p .answer) (I′.lowered (p .answer) ∷ []) → Says p us → zs ≡ entriesAfter lst ys ss ts t → length zs ≡ length ys → length us ≡ length ss
+  exits : (p : Placing) (zs : List Entry) (us : List ℕ) → Is I.the-row (p .answer) (I′.lowered (p .answer) ∷ []) → Says p us → Leaves lst ys ss ts t p us zs → length zs ≡ length ys → length us ≡ length ss
       → ent 𝓤 (⋆ 𝓤 H A (Two ∷ ‵ (finally u8 γ₁ us) ∷ ‵ (flft κ q) ∷ ‵ PatOwn ∷ ‵ (EsOwn zs) ∷ [])) (Post (I′.lowered (p .answer)))
   exits p zs us ga e e′ l l′ =
       qed W (Two ∷ ‵ (finally u8 γ₁ us) ∷ ‵ (flft κ q) ∷ ‵ PatOwn ∷ ‵ (EsOwn zs) ∷ []) ∵
       suffices ! _ (ends-at 𝓤 H A insert.ended stayed (insert.clauses 𝓤 H A mem run) W (((κ, (κ₁, (κ₂, tt))), (q, (q₁, (q₂, tt))), tt, a, vals), tt) (I′.lowered (p .answer)) (p .answer) (tt, (zs, (us, (tt, (tt, tt))))) (tt, (l, (l′, (tt, (tt, tt)))))) $
-      says ! (e .0, e′, stored lst ys ss ts t p us e) $ move ! (2 ∷ 0 ∷ []) $ join ! $ frame ! $
+      says ! e′ $ move ! (2 ∷ 0 ∷ []) $ join ! $ frame ! $
       -- [store's last list; what pattern owns; what es owns]
       nothing ! $ owned ! u32 (Is u32) (uint-makes 𝓤 H A W w32) t _ (refl, gt) $ fjoin ! $ move ! (2 ∷ 0 ∷ []) $ fjoin ! $ move ! (1 ∷ 0 ∷ []) $ fjoin ! $ move ! (1 ∷ 0 ∷ []) $ fjoin ! $
       owned ! L.the-row (Is L.the-row) (LL.makes L.the-type L′.the-plain 𝓤 H A) lst (vl ∷ []) gl $ fjoin ! $ frame ! $
@@ -191,7 +190,7 @@ module _ {M : Type 1} (𝓤 : URA M) (H : Heap 𝓤) (A : Atoms 𝓤) (W : Given
       ge = LL.owed P.the-type P′.the-laws p _ is .1 .1 .0
 
       -- what follows the branch, once for both arms
-      leaves : (zs : List Entry) → Says p us → zs ≡ entriesAfter lst ys ss ts t → length zs ≡ length ys → length us ≡ length ss → Sq W (Met zs) (runs C Λ En piece.t-7 (atRet En Post))
+      leaves : (zs : List Entry) → Says p us → Leaves lst ys ss ts t p us zs → length zs ≡ length ys → length us ≡ length ss → Sq W (Met zs) (runs C Λ En piece.t-7 (atRet En Post))
       leaves zs e e′ l l′ =
           assigns ! (of-opd ! (load ! (from ! (fld ! refl (stop !))) (look-in ! 17 (sub ! 3 refl (whole !))))) (from ! (stop !)) (init ! 29 refl (EL.lawful I.the-type I′.the-laws 𝓤 H A W tt .typed (p .answer) _ ga .0)) $
           returns ! (look ! 29 refl) $ forget ! 9 refl $ forget ! 11 refl $ forget ! 13 refl $ forget ! 15 refl $ forget ! 17 refl $ forget ! 19 refl $ forget ! 21 refl $ forget ! 23 refl $ forget ! 25 refl $ forget ! 27 refl $ forget ! 29 refl $
@@ -218,10 +217,10 @@ module _ {M : Type 1} (𝓤 : URA M) (H : Heap 𝓤) (A : Atoms 𝓤) (W : Given
           fjoin ! $ pureI ! (at-slice E (xe zs) (ve ∷ [])) (tt, (tt, tt)) (ap (λ (m : ℕ). sliceVal (b, o) m ∷ []) (sym zs-length), subst (Room E) (sym zs-length) gn) $ fjoin ! $ forget ! 6 refl $ forget ! 8 refl $
           keep ! (3 ∷ 4 ∷ 1 ∷ 5 ∷ 0 ∷ 6 ∷ 7 ∷ 8 ∷ 9 ∷ 10 ∷ 11 ∷ 12 ∷ 13 ∷ 14 ∷ 15 ∷ 16 ∷ 17 ∷ 18 ∷ 19 ∷ 20 ∷ 21 ∷ 22 ∷ 23 ∷ 24 ∷ 25 ∷ 26 ∷ 27 ∷ 28 ∷ 29 ∷ 30 ∷ 31 ∷ []) $
           leaves zs e (told h .1) zs-length l′))
-          (λ h. skips ! $ exec ! C Λ En piece.t-7 (atRet En Post) $ leaves ys e (kept lst ys ss ts t p us e h) refl l′)
+          (λ h. skips ! $ exec ! C Λ En piece.t-7 (atRet En Post) $ leaves ys e (entry-unwritten lst ys ss ts t p us e h) refl l′)
         where
-          told : T (p .taken) → (p .at < length ys) × (set ys (p .at) (p .entry) ≡ entriesAfter lst ys ss ts t)
-          told h = written lst ys ss ts t p us e h
+          told : T (p .taken) → (p .at < length ys) × Leaves lst ys ss ts t p us (set ys (p .at) (p .entry))
+          told h = entry-written lst ys ss ts t p us e h
 
           small : T (p .taken) → p .at < length ys
           small h = told h .0
@@ -235,7 +234,7 @@ module _ {M : Type 1} (𝓤 : URA M) (H : Heap 𝓤) (A : Atoms 𝓤) (W : Given
           zs-length : length zs ≡ length ys
           zs-length = length-set ys (p .at) (p .entry)
 
-    module _ (fm : FmC 𝓤 H (W .laws) C) (known : Triple 𝓤 (C #sublist·place) (Place 𝓤 H A mem run)) where
+    module _ (fm : FmC 𝓤 H (W .laws) C) (known : Triple 𝓤 (C #sublist_entries·place) (Place 𝓤 H A mem run)) where
       walk : ent 𝓤 (onEntry 𝓤 H A insert.signature (κ, (κ₁, (κ₂, tt))) (q, (q₁, (q₂, tt))) a vals) (WpFn 𝓤 H C Λ code.function (vl ∷ ve ∷ vs ∷ vp ∷ vint w32 t ∷ []) Post)
       walk =
           qed W ((‵ (flft κ q) ⊛ Two) ∷ ‵ (owns (L.the-row ∷ MutSlice (named 0) κ E ∷ MutSlice (named 1) κ₁ u8 ∷ ShrSlice (named 2) κ₂ u8 ∷ u32 ∷ []) a vals) ∷ []) ∵ enter ! C Λ code.function (vl ∷ ve ∷ vs ∷ vp ∷ vint w32 t ∷ []) _ $
@@ -269,7 +268,7 @@ module _ {M : Type 1} (𝓤 : URA M) (H : Heap 𝓤) (A : Atoms 𝓤) (W : Given
           decides p (subst (Is P.the-row p) (P′.lowers .val-is p (w ∷ []) is) is) (us .1 .1 .0) l₀ l₁ l₂ l₃ l₄ l₅ l₆ l₇ l₈ l₉ l₁₀ l₁₁ l₁₂ e l)))))))))))))))))))
 
 module _ {M : Type 1} (𝓤 : URA M) (H : Heap 𝓤) (A : Atoms 𝓤) (W : Given 𝓤 H A) (mem : Memory → SProp 𝓤) (run : Routine → Fun 𝓤) where
-  insert-walks : (C : Calls 𝓤 H) (Λ : Loops 𝓤 H) → FmC 𝓤 H (W .laws) C → Triple 𝓤 (C #sublist·place) (Place 𝓤 H A mem run) → Walks 𝓤 H A insert.ended stayed (WpFn 𝓤 H C Λ code.function) (insert.clauses 𝓤 H A mem run)
+  insert-walks : (C : Calls 𝓤 H) (Λ : Loops 𝓤 H) → FmC 𝓤 H (W .laws) C → Triple 𝓤 (C #sublist_entries·place) (Place 𝓤 H A mem run) → Walks 𝓤 H A insert.ended stayed (WpFn 𝓤 H C Λ code.function) (insert.clauses 𝓤 H A mem run)
   insert-walks C Λ fm known = walked 𝓤 H A insert.ended stayed (insert.clauses 𝓤 H A mem run) (WpFn 𝓤 H C Λ code.function)
       (λ κs. ((λ l. L′.lowered l ∷ []), (slice-vals, (slice-vals, (slice-vals, (uint-vals w32, tt))))))
       (λ κs. (L′.lowers .val-is, (mut-slice-tells (named 0) (κs .0) E, (mut-slice-tells (named 1) (κs .1 .0) u8, (shr-slice-tells (named 2) (κs .1 .1 .0) u8, (uint-tells w32, tt))))))
@@ -278,7 +277,7 @@ module _ {M : Type 1} (𝓤 : URA M) (H : Heap 𝓤) (A : Atoms 𝓤) (W : Given
       (a .1 .1 .0 .ptr .0) (a .1 .1 .0 .ptr .1) (a .1 .1 .0 .name) (a .1 .1 .0 .now) (a .1 .1 .1 .0 .ptr .0) (a .1 .1 .1 .0 .ptr .1) (a .1 .1 .1 .0 .name) (a .1 .1 .1 .0 .now) (a .1 .1 .1 .1 .0)
       (are .0) (are .1 .0 .0 .1) (are .1 .1 .0 .0 .1) (are .1 .1 .1 .0 .0 .1) (are .1 .1 .1 .1 .0 .1) C Λ fm known))
 
-insert-meets : {M : Type 1} (𝓤 : URA M) (H : Heap 𝓤) (A : Atoms 𝓤) → Given 𝓤 H A → (mem : Memory → SProp 𝓤) (run : Routine → Fun 𝓤) (𝓣 : Tables 𝓤 H) → Triple 𝓤 (𝓣 .C #sublist·place) (Place 𝓤 H A mem run)
+insert-meets : {M : Type 1} (𝓤 : URA M) (H : Heap 𝓤) (A : Atoms 𝓤) → Given 𝓤 H A → (mem : Memory → SProp 𝓤) (run : Routine → Fun 𝓤) (𝓣 : Tables 𝓤 H) → Triple 𝓤 (𝓣 .C #sublist_entries·place) (Place 𝓤 H A mem run)
     → Meets 𝓤 H A insert.signature (WpFn 𝓤 H (𝓣 .C) (𝓣 .Λ) code.function) (insert.spec 𝓤 H A mem run)
 insert-meets 𝓤 H A W mem run 𝓣 known =
     walk-meets 𝓤 H A insert.ended stayed W (goes-none 𝓤 H A W 3 (λ _. L.the-row) yes (λ κs x f. refl), (goes-slice 𝓤 H A W 3 0 tt (plain (λ _. E)), (goes-gave-slice 𝓤 H A W 3 1 tt (plain (λ _. u8)), (goes-none-slice 𝓤 H A W 3 (2 ∷ []) tt (plain (λ _. u8)) yes, (goes-none 𝓤 H A W 3 (λ _. u32) yes (λ κs x f. refl), tt)))))
@@ -288,6 +287,6 @@ pub insert-spec : {M : Type 1} → stated.statement M
 unfolding code.routine tablesOf
 insert-spec 𝓤 H 𝓜 𝓖 𝓡 =
     entered 𝓤 H (tripleOf 𝓤 H (𝓖 .A) insert.signature (insert.spec 𝓤 H (𝓖 .A) (𝓜 .mem) (𝓡 .run)))
-    (tables 𝓤 H 𝓜 𝓡 code.env .C) (tables 𝓤 H 𝓜 𝓡 code.env .Λ) #sublist·insert code.function (code.unfolded 𝓤 H 𝓜 𝓡)
+    (tables 𝓤 H 𝓜 𝓡 code.env .C) (tables 𝓤 H 𝓜 𝓡 code.env .Λ) #sublist_entries·insert code.function (code.unfolded 𝓤 H 𝓜 𝓡)
     (insert-meets 𝓤 H (𝓖 .A) (givenOf 𝓤 H 𝓜 𝓖) (𝓜 .mem) (𝓡 .run) (tablesOf 𝓤 H 𝓜 (tables 𝓤 H 𝓜 𝓡 code.env))
-    (cited 𝓤 H (Place 𝓤 H (𝓖 .A) (𝓜 .mem) (𝓡 .run)) 𝓜 𝓡 code.env #sublist·place place-def.routine code.calls-sublist·place (place-thm.met 𝓤 H 𝓜 𝓖 𝓡)))
+    (cited 𝓤 H (Place 𝓤 H (𝓖 .A) (𝓜 .mem) (𝓡 .run)) 𝓜 𝓡 code.env #sublist_entries·place place-def.routine code.calls-sublist-entries·place (place-thm.met 𝓤 H 𝓜 𝓖 𝓡)))

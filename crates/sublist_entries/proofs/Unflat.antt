@@ -6,8 +6,8 @@ use mathlib.Core.Path.{_≡_, refl, ap}
 use mathlib.Core.List.{List, [], _∷_, _++_}
 use lib.ListN.{length, getD}
 use Rattle.sublist_tree.specs.Lists.{All}
-use Rattle.sublist.specs.declared.Entry.{Entry}
-use Rattle.sublist.specs.Flat.{unflat}
+use Rattle.sublist_entries.specs.declared.Entry.{Entry}
+use Rattle.sublist_entries.specs.Numbers.{unflat}
 
 abbrev pub entryAt : List ℕ → ℕ → Entry
 entryAt ws i = record { start = getD ws (3 * i) 0; length = getD ws (3 * i + 1) 0; target = getD ws (3 * i + 2) 0 }

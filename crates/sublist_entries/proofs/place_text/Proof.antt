@@ -1,10 +1,10 @@
--- `sublist::place_text` meets its contract.
+-- `sublist_entries::place_text` meets its contract.
 use mathlib.Core.Path.{refl}
 use lib.ListN.{length}
 use borrow.Author.Needs.{needs}
-use Rattle.sublist.proofs.Deciding.{says-all-used, says-no-place, says-text-full, says-done, full-entries, full-text, accepted}
-use Rattle.sublist.proofs.place_text.Statement.{statement}
-use Rattle.sublist.proofs.place_text.Tie as tie
+use Rattle.sublist_entries.proofs.Deciding.{says-all-used, says-no-place, says-text-full, says-done, full-entries, full-text, accepted}
+use Rattle.sublist_entries.proofs.place_text.Statement.{statement}
+use Rattle.sublist_entries.proofs.place_text.Tie as tie
 
 turn-down-requires : tie.Need-turn-down-requires
 turn-down-requires c κs = search needs
@@ -12,7 +12,7 @@ turn-down-requires c κs = search needs
 returns : tie.Need-returns
 returns c =
     let a = c .before .before .before .before .before .args in
-    full-entries (a .list) (a .target) (a .store .now) (a .text .now) _ _ (c .turn-down .ensures) (says-all-used (a .list) (a .places) (length (a .store .now)) (length (a .text .now)) (search needs))
+    full-entries (a .list) (a .store .now) (a .text .now) (a .target) _ _ (c .turn-down .ensures) (says-all-used (a .list) (a .places) (length (a .store .now)) (length (a .text .now)) (search needs))
 
 turn-down-requires-2 : tie.Need-turn-down-requires-2
 turn-down-requires-2 c κs = search needs
@@ -20,7 +20,7 @@ turn-down-requires-2 c κs = search needs
 returns-2 : tie.Need-returns-2
 returns-2 c =
     let a = c .before .before .before .before .before .before .before .args in
-    full-entries (a .list) (a .target) (a .store .now) (a .text .now) _ _ (c .turn-down2 .ensures) (says-no-place (a .list) (a .places) (length (a .store .now)) (length (a .text .now)) (search needs) (search needs))
+    full-entries (a .list) (a .store .now) (a .text .now) (a .target) _ _ (c .turn-down2 .ensures) (says-no-place (a .list) (a .places) (length (a .store .now)) (length (a .text .now)) (search needs) (search needs))
 
 bytes-left-requires : tie.Need-bytes-left-requires
 bytes-left-requires c κs = search needs
@@ -31,7 +31,7 @@ turn-down-requires-3 c κs = search needs
 returns-3 : tie.Need-returns-3
 returns-3 c =
     let a = c .before .before .before .before .before .before .before .before .before .args in
-    full-text (a .list) (a .target) (a .store .now) (a .text .now) _ _ (c .turn-down3 .ensures) (says-text-full (a .list) (a .places) (length (a .store .now)) (length (a .text .now)) (search needs) (search needs) (search needs))
+    full-text (a .list) (a .store .now) (a .text .now) (a .target) _ _ (c .turn-down3 .ensures) (says-text-full (a .list) (a .places) (length (a .store .now)) (length (a .text .now)) (search needs) (search needs) (search needs))
 
 paste-requires : tie.Need-paste-requires
 paste-requires c κs = search needs
@@ -49,7 +49,7 @@ returns-4 : tie.Need-returns-4
 returns-4 c =
     let p = c .before .before .before .before in
     let a = p .before .before .before .before .before .before .before .before .before .before .args in
-    accepted (a .list) (a .target) (a .store .now) (a .text .now) _ _ _ _ refl (says-done (a .list) (a .places) (length (a .store .now)) (length (a .text .now)) (search needs) (search needs) (search needs)) (p .paste .ensures)
+    accepted (a .list) (a .store .now) (a .text .now) (a .target) _ _ _ _ refl (says-done (a .list) (a .places) (length (a .store .now)) (length (a .text .now)) (search needs) (search needs) (search needs)) (p .paste .ensures)
 
 pub place-text-spec : {M : Type 1} → statement M
 place-text-spec =

@@ -1,0 +1,5 @@
+pub mod Sizes
+pub mod Deciding
+pub mod Numbered
+pub mod Unflat
+pub mod Reading
