@@ -9,7 +9,7 @@ use mathlib.Core.List.{List, [], _∷_, map, List·Memᴰ}
 use lib.Dec.{eqb, ltb}
 use lib.ListN.{length, drop, getD}
 use lib.Seq.{take-append-seam}
-use borrow.Author.Tests.{ltb-true, ltb-false}
+use borrow.Author.Tests.{ltb-true, ltb-false, ne-eqb}
 use Rattle.subject.specs.Choice.{pick}
 use Rattle.subject.specs.Text.{tokens}
 use Rattle.subject.specs.Fnv.{fnv}
@@ -31,7 +31,7 @@ use Rattle.resolve_cache.proofs.Faithful.{Faithful, unlessText, fresh-faithful,
 use Rattle.binding.specs.Verdict.{singleHome, judgeMatch, judgeHanded, judgeResolved, resolveSingleHome, resolveSingleHomeCached}
 use Rattle.binding.specs.Calls.{Call, store, clearing, asking, resolving, askingHome, resolvingHome, Reply, refused, storing, cleared, matched, resolved, home, Kept, Cabinet, replaced, stamped, shown, resolvedAs, homeAs, storeTo, resolveIn, homeIn, reply, after}
 use Rattle.binding.specs.Built.{BuiltFrom}
-use Rattle.binding.specs.Demand.{due, peakDue, worstOf, Standing, start, standingAfter, textFirst, Right, EachRight, Happened, AllRight, SnapshotRight, Opened, Lent, isStore, storesIn, tokensOf, tokensIn, inPlay, HashedApart, Premises, Met}
+use Rattle.binding.specs.Demand.{due, verdictOn, peakDue, worstOf, Standing, start, standingAfter, textFirst, Right, EachRight, Happened, AllRight, SnapshotRight, Opened, Lent, isStore, storesIn, tokensOf, tokensIn, inPlay, HashedApart, Premises, Met}
 use Rattle.binding.proofs.Builds.{built-accepts, built-bound, builds-right}
 use Rattle.binding.proofs.Tables.{table-holds}
 use Rattle.binding.proofs.Tokens.{Within, within-all, all-left, all-right, no-clash, subject-literals}
@@ -57,6 +57,12 @@ Taken pool s b es full x =
 abbrev walked : Standing → List ℕ → List ℕ
 walked s subject = walk eqb (map fnv (tokens subject)) (rootOf fnv (s .entries) ∷ [])
 
+-- the verdict is 01's
+pub verdict-is : (list : List ℕ) → singleHome list ≡ verdictOn list
+verdict-is [] = refl
+verdict-is (x ∷ []) = refl
+verdict-is (x ∷ (y ∷ zs)) = rw (ne-eqb (suc (suc (length zs))) 0 (λ e. omega (arith, e)), ne-eqb (suc (suc (length zs))) 1 (λ e. omega (arith, e)))
+
 -- the verdict in a reply, without its list
 abbrev homeOf : Reply → Reply
 homeOf (refused a) = refused a
@@ -74,8 +80,8 @@ home-of-handed : (h : Handed) → homeAs (judgeHanded h) ≡ homeOf (resolvedAs 
 home-of-handed (turnedBack r) = refl
 home-of-handed (gives list) = refl
 
-home-demanded : (dues : List ℕ) (o : Answer) (c : Bool) (values : List ℕ) (given : List ℕ → Reply) → ((list : List ℕ) → homeOf (given list) ≡ home (singleHome list) values)
-    → homeOf (textFirst o (pick c (refused (answer 21 (length dues ∷ []))) (given dues))) ≡ textFirst o (pick c (refused (answer 21 (length dues ∷ []))) (home (singleHome dues) values))
+home-demanded : (dues : List ℕ) (o : Answer) (c : Bool) (values : List ℕ) (given : List ℕ → Reply) → ((list : List ℕ) → homeOf (given list) ≡ home (verdictOn list) values)
+    → homeOf (textFirst o (pick c (refused (answer 21 (length dues ∷ []))) (given dues))) ≡ textFirst o (pick c (refused (answer 21 (length dues ∷ []))) (home (verdictOn dues) values))
 home-demanded dues (answer (suc k) vs) c values given e = refl
 home-demanded dues (answer zero vs) true values given e = refl
 home-demanded dues (answer zero vs) false values given e = e dues
@@ -136,15 +142,15 @@ module _ (pool : List (List ℕ)) (apart : HashedApart pool) where
       where
         end : (list : List ℕ) (top g : ℕ) (c : Bool)
             → shown (pick c (outcome (answer 21 (length list ∷ [])) out) (outcome (answer 0 (length list ∷ top ∷ g ∷ [])) (over list out)))
-            ≡ pick c (refused (answer 21 (length list ∷ []))) (matched list (singleHome list) top g)
+            ≡ pick c (refused (answer 21 (length list ∷ []))) (matched list (verdictOn list) top g)
         end list top g true = refl
-        end list top g false = ap (λ ts. matched ts (singleHome ts) top g) (take-append-seam list (drop (length list) out))
+        end list top g false = ap (λ ts. matched ts (singleHome ts) top g) (take-append-seam list (drop (length list) out)) ∙ ap (λ v. matched list v top g) (verdict-is list)
 
         go : (o : Answer) → grammar false subject ≡ o
             → shown (ifSubject o out (pick (ltb (length out) (length (walked s subject))) (outcome (answer 21 (length (walked s subject) ∷ [])) out)
             (outcome (answer 0 (length (walked s subject) ∷ peak eqb (map fnv (tokens subject)) (rootOf fnv (s .entries) ∷ []) ∷ b .snapshot .generation .0 ∷ [])) (over (walked s subject) out))))
             ≡ textFirst o (pick (ltb (length out) (length (due (s .entries) subject))) (refused (answer 21 (length (due (s .entries) subject) ∷ [])))
-            (matched (due (s .entries) subject) (singleHome (due (s .entries) subject)) (peakDue (s .entries) subject) (s .stores)))
+            (matched (due (s .entries) subject) (verdictOn (due (s .entries) subject)) (peakDue (s .entries) subject) (s .stores)))
         go (answer (suc k) values) e = refl
         go (answer zero values) e =
             end (walked s subject) (peak eqb (map fnv (tokens subject)) (rootOf fnv (s .entries) ∷ [])) (b .snapshot .generation .0) (ltb (length out) (length (walked s subject)))
@@ -178,17 +184,17 @@ module _ (pool : List (List ℕ)) (apart : HashedApart pool) where
       where
         push : (o : Answer) (c : Bool)
             → resolvedAs (unlessText o (pick c (turnedBack (answer 21 (length (due (s .entries) subject) ∷ []))) (gives (due (s .entries) subject))))
-            ≡ textFirst o (pick c (refused (answer 21 (length (due (s .entries) subject) ∷ []))) (resolved (due (s .entries) subject) (singleHome (due (s .entries) subject))))
+            ≡ textFirst o (pick c (refused (answer 21 (length (due (s .entries) subject) ∷ []))) (resolved (due (s .entries) subject) (verdictOn (due (s .entries) subject))))
         push (answer (suc k) values) c = refl
         push (answer zero values) true = refl
-        push (answer zero values) false = refl
+        push (answer zero values) false = ap (resolved (due (s .entries) subject)) (verdict-is (due (s .entries) subject))
 
     -- the two that feed `single_home` answer by the match and the resolve that they make
     asking-home-step : (subject out : List ℕ) → Within pool (literals (tokens subject)) → Right s (askingHome subject out) (reply b (askingHome subject out))
     unfolding resolveSingleHome
     asking-home-step subject out w = (
       home-of-match (matchIn (b .snapshot) (b .words) subject out) ∙ ap homeOf (asked .0) ∙ home-demanded (due (s .entries) subject) (grammar false subject) (ltb (length out) (length (due (s .entries) subject))) (peakDue (s .entries) subject ∷ s .stores ∷ [])
-          (λ list. matched list (singleHome list) (peakDue (s .entries) subject) (s .stores)) (λ list. refl),
+          (λ list. matched list (verdictOn list) (peakDue (s .entries) subject) (s .stores)) (λ list. refl),
       asked .1,
       asked .2,
     )
@@ -203,7 +209,7 @@ module _ (pool : List (List ℕ)) (apart : HashedApart pool) where
         let r = resolving-step j subject out w in (
           home-of-handed (handed ((resolveIn b j subject out) .says) ((resolveIn b j subject out) .area .kept) ((resolveIn b j subject out) .out))
               ∙ ap homeOf (r .0) ∙ home-demanded (due (s .entries) subject) (grammar false subject) (ltb (length out) (length (due (s .entries) subject))) []
-              (λ list. resolved list (singleHome list)) (λ list. refl),
+              (λ list. resolved list (verdictOn list)) (λ list. refl),
           r .1,
         )
 

@@ -5,7 +5,7 @@ use mathlib.Core.Bool.{Bool, true, false}
 use mathlib.Core.List.{List, [], _∷_, _++_, map}
 use mathlib.Core.Option.{Option, none, some}
 use lib.Dec.{eqb, ltb}
-use lib.ListN.{length, take, drop}
+use lib.ListN.{length, take, drop, getD}
 use Rattle.subject.specs.Choice.{pick, or}
 use Rattle.subject.specs.Text.{same, tokens}
 use Rattle.subject.specs.Fnv.{fnv}
@@ -22,13 +22,21 @@ use Rattle.sublist.specs.Building.{buildSays}
 use Rattle.sublist_snapshot.specs.Snapshot.{Table, snapshotNumbers, make}
 use Rattle.resolve_cache.specs.Area.{Area}
 use Rattle.resolve_cache.specs.Cache.{cacheNumbers, withCapacity, newCache}
-use Rattle.binding.specs.Verdict.{singleHome}
+use Rattle.binding.specs.declared.Resolution.{Resolution}
+use Rattle.binding.specs.declared.Resolution.the-variants.{Routed, NoStream, Ambiguous}
 use Rattle.binding.specs.Built.{BuiltFrom}
 use Rattle.binding.specs.Calls.{Call, store, clearing, asking, resolving, askingHome, resolvingHome, Reply, refused, storing, cleared, matched, resolved, home, Cabinet, reply, after}
 
 -- "the targets due are those of the standing table's entries that match, once per entry, in 01's order"
 abbrev pub due : List TableEntry → List ℕ → List ℕ
 due es subject = map targetOf (sort (precedes same) (rootOf (λ t. t) (matchingEntries (tokens subject) es)))
+
+-- "empty list NoStream, one target Routed with it, else Ambiguous with the length"
+abbrev pub verdictOn : List ℕ → Resolution
+verdictOn list =
+    pick (eqb (length list) 0) NoStream
+    (pick (eqb (length list) 1) (Routed (getD list 0 0))
+    (Ambiguous (length list)))
 
 -- 01's peak and worst case, literals compared by hash
 abbrev pub peakDue : List TableEntry → List ℕ → ℕ
@@ -81,16 +89,16 @@ Right s (store t es) r = r ≡ pick (ltb (s .room) (wordsOf t)) (refused (answer
 Right s (clearing i) r = r ≡ cleared
 -- the verdict is that of the list; the peak is 01's, and at most the worst case, which is at most 1,024; the generation is the standing table's
 Right s (asking subject out) r =
-    (r ≡ demanded (due (s .entries) subject) subject (length out) (λ list. matched list (singleHome list) (peakDue (s .entries) subject) (s .stores)))
+    (r ≡ demanded (due (s .entries) subject) subject (length out) (λ list. matched list (verdictOn list) (peakDue (s .entries) subject) (s .stores)))
     × (peakDue (s .entries) subject ≤ worstOf (s .entries)) × (worstOf (s .entries) ≤ 1024)
 Right s (resolving i subject out) r =
-    r ≡ demanded (due (s .entries) subject) subject (length out) (λ list. resolved list (singleHome list))
+    r ≡ demanded (due (s .entries) subject) subject (length out) (λ list. resolved list (verdictOn list))
 -- the two that feed `single_home` count as a match and a resolve: refused when these are, with the verdict of their list
 Right s (askingHome subject out) r =
-    (r ≡ demanded (due (s .entries) subject) subject (length out) (λ list. home (singleHome list) (peakDue (s .entries) subject ∷ s .stores ∷ [])))
+    (r ≡ demanded (due (s .entries) subject) subject (length out) (λ list. home (verdictOn list) (peakDue (s .entries) subject ∷ s .stores ∷ [])))
     × (peakDue (s .entries) subject ≤ worstOf (s .entries)) × (worstOf (s .entries) ≤ 1024)
 Right s (resolvingHome i subject out) r =
-    r ≡ demanded (due (s .entries) subject) subject (length out) (λ list. home (singleHome list) [])
+    r ≡ demanded (due (s .entries) subject) subject (length out) (λ list. home (verdictOn list) [])
 
 -- each call takes states and areas as the last call on them, refused or not, returned and left them
 abbrev pub EachRight : Standing → Cabinet → List Call → Type 0
