@@ -1,4 +1,5 @@
--- 01's numbers and values for the answers of the two calls that feed `single_home`, and what a call answered and left as their definitions have it.
+-- 01's numbers and values for the answers of the two calls that feed `single_home`, and what a call answered and left
+-- as their definitions have it.
 use Prim.Native.Nat.{ℕ}
 use mathlib.Core.List.{List, [], _∷_}
 use Rattle.subject.specs.Answers.{Answer, answer, refusal}
@@ -6,7 +7,9 @@ use Rattle.resolve_cache.specs.Area.{Area}
 use Rattle.binding.specs.declared.SingleHome.{SingleHome}
 use Rattle.binding.specs.declared.SingleHome.the-variants.{Resolved, Invalid, Damaged, OutShort}
 use Rattle.binding.specs.declared.CachedSingleHome.{CachedSingleHome}
-use Rattle.binding.specs.declared.CachedSingleHome.the-variants.{Resolved as Given, Invalid as NotSubject, CacheShort, BadSlot, Damaged as NoTable, OutShort as NoRoom}
+use Rattle.binding.specs.declared.CachedSingleHome.the-variants.{Resolved as Given, Invalid as NotSubject}
+use Rattle.binding.specs.declared.CachedSingleHome.the-variants.{CacheShort, BadSlot, Damaged as NoTable}
+use Rattle.binding.specs.declared.CachedSingleHome.the-variants.{OutShort as NoRoom}
 use Rattle.binding.specs.declared.CachedResolution.{CachedResolution}
 use Rattle.binding.specs.Verdict.{Judged, turnedDown, judged, Homed, CachedHomed}
 

@@ -20,7 +20,9 @@ pub record BuiltFrom (t : Table) (es : List TableEntry) : Type 0 where
   pub nodesLent : List ℕ
   pub targetsLent : List ℕ
   pub worstCase : ℕ
-  pub accepted : buildSays list store (length nodesLent / 16) (length targetsLent) (t .generation .0) ≡ answer 0 (t .nodes ∷ worstCase ∷ t .generation .0 ∷ [])
+  pub accepted :
+      buildSays list store (length nodesLent / 16) (length targetsLent) (t .generation .0)
+      ≡ answer 0 (t .nodes ∷ worstCase ∷ t .generation .0 ∷ [])
   pub areasLeft : buildLeaves list store nodesLent targetsLent ≡ filling (t .nodeWords) (t .targetWords)
   -- a target for each entry
   pub oneEach : t .targets ≡ length list

@@ -13,7 +13,8 @@ use Rattle.resolve_cache.specs.declared.ResolveCache.{ResolveCache}
 use Rattle.resolve_cache.specs.Area.{Area}
 use Rattle.resolve_cache.specs.Cache.{clear, Handed, turnedBack, gives, handed, Resolved, resolve}
 use Rattle.binding.specs.declared.Resolution.{Resolution}
-use Rattle.binding.specs.Verdict.{singleHome, Judged, turnedDown, judged, resolveSingleHome, CachedHomed, resolveSingleHomeCached}
+use Rattle.binding.specs.Verdict.{singleHome, Judged, turnedDown, judged, resolveSingleHome, CachedHomed}
+use Rattle.binding.specs.Verdict.{resolveSingleHomeCached}
 
 pub data Call : Type 0 where
   -- a table, with the entries that its build read
@@ -62,7 +63,9 @@ stamped (answer (suc k) values) = refused (answer (suc k) values)
 
 -- of a match, the length of the list at the start of the output, the peak, the generation
 abbrev pub shown : Outcome → Reply
-shown (outcome (answer zero values) out) = matched (take (getD values 0 0) out) (singleHome (take (getD values 0 0) out)) (getD values 1 0) (getD values 2 0)
+shown (outcome (answer zero values) out) =
+    let list = take (getD values 0 0) out in
+    matched list (singleHome list) (getD values 1 0) (getD values 2 0)
 shown (outcome (answer (suc k) values) out) = refused (answer (suc k) values)
 
 -- of a resolve, what it hands back
@@ -82,13 +85,16 @@ abbrev pub resolveIn : Cabinet → ℕ → List ℕ → List ℕ → Resolved
 resolveIn b i subject out = resolve (b .caches i .cache) (b .caches i .area) (b .snapshot) (b .words) subject out
 
 abbrev pub homeIn : Cabinet → ℕ → List ℕ → List ℕ → CachedHomed
-homeIn b i subject out = resolveSingleHomeCached (b .caches i .cache) (b .caches i .area) (b .snapshot) (b .words) subject out
+homeIn b i subject out =
+    resolveSingleHomeCached (b .caches i .cache) (b .caches i .area) (b .snapshot) (b .words) subject out
 
 abbrev pub reply : Cabinet → Call → Reply
 reply b (store t es) = stamped ((storeTo b t) .says)
 reply b (clearing i) = cleared
 reply b (asking subject out) = shown (matchIn (b .snapshot) (b .words) subject out)
-reply b (resolving i subject out) = resolvedAs (handed ((resolveIn b i subject out) .says) ((resolveIn b i subject out) .area .kept) ((resolveIn b i subject out) .out))
+reply b (resolving i subject out) =
+    let r = resolveIn b i subject out in
+    resolvedAs (handed (r .says) (r .area .kept) (r .out))
 reply b (askingHome subject out) = homeAs ((resolveSingleHome (b .snapshot) (b .words) subject out) .says)
 reply b (resolvingHome i subject out) = homeAs ((homeIn b i subject out) .says)
 
@@ -104,11 +110,15 @@ after b (asking subject out) = b
 after b (resolving i subject out) = record {
   snapshot = b .snapshot;
   words = b .words;
-  caches = replaced (b .caches) i (record { cache = (resolveIn b i subject out) .cache; area = (resolveIn b i subject out) .area });
+  caches =
+      let r = resolveIn b i subject out in
+      replaced (b .caches) i (record { cache = r .cache; area = r .area });
 }
 after b (askingHome subject out) = b
 after b (resolvingHome i subject out) = record {
   snapshot = b .snapshot;
   words = b .words;
-  caches = replaced (b .caches) i (record { cache = (homeIn b i subject out) .cache; area = (homeIn b i subject out) .area });
+  caches =
+      let r = homeIn b i subject out in
+      replaced (b .caches) i (record { cache = r .cache; area = r .area });
 }

@@ -25,7 +25,8 @@ use Rattle.resolve_cache.specs.Cache.{cacheNumbers, withCapacity, newCache}
 use Rattle.binding.specs.declared.Resolution.{Resolution}
 use Rattle.binding.specs.declared.Resolution.the-variants.{Routed, NoStream, Ambiguous}
 use Rattle.binding.specs.Built.{BuiltFrom}
-use Rattle.binding.specs.Calls.{Call, store, clearing, asking, resolving, askingHome, resolvingHome, Reply, refused, storing, cleared, matched, resolved, home, Cabinet, reply, after}
+use Rattle.binding.specs.Calls.{Call, store, clearing, asking, resolving, askingHome, resolvingHome, Reply}
+use Rattle.binding.specs.Calls.{refused, storing, cleared, matched, resolved, home, Cabinet, reply, after}
 
 -- "the targets due are those of the standing table's entries that match, once per entry, in 01's order"
 abbrev pub due : List TableEntry → List ℕ → List ℕ
@@ -65,7 +66,9 @@ start es area = record { entries = es; stores = 0; room = length area }
 
 -- and that of the last accepted store after it
 abbrev pub standingAfter : Standing → Call → Standing
-standingAfter s (store t es) = pick (ltb (s .room) (wordsOf t)) s (record { entries = es; stores = suc (s .stores); room = s .room })
+standingAfter s (store t es) =
+    pick (ltb (s .room) (wordsOf t)) s
+    (record { entries = es; stores = suc (s .stores); room = s .room })
 standingAfter s (clearing i) = s
 standingAfter s (asking subject out) = s
 standingAfter s (resolving i subject out) = s
@@ -77,25 +80,34 @@ abbrev pub textFirst : Answer → Reply → Reply
 textFirst (answer zero values) given = given
 textFirst (answer (suc k) values) given = refused (answer (suc k) values)
 
--- "The call is refused exactly when 01 refuses its subject's text or more targets are due than its output holds. Otherwise its list equals the targets due"
+-- "The call is refused exactly when 01 refuses its subject's text or more targets are due than its output holds.
+-- Otherwise its list equals the targets due"
 abbrev pub demanded : List ℕ → List ℕ → ℕ → (List ℕ → Reply) → Reply
-demanded dues subject room given = textFirst (grammar false subject) (pick (ltb room (length dues)) (refused (answer 21 (length dues ∷ []))) (given dues))
+demanded dues subject room given =
+    textFirst (grammar false subject)
+    (pick (ltb room (length dues)) (refused (answer 21 (length dues ∷ [])))
+    (given dues))
 
 -- what is asked of the reply to one call
 abbrev pub Right : Standing → Call → Reply → Type 0
--- a store is refused exactly when the snapshot's area is shorter than its table, and otherwise returns its generation, which is its number among the accepted stores
+-- a store is refused exactly when the snapshot's area is shorter than its table, and otherwise returns its generation,
+-- which is its number among the accepted stores
 Right s (store t es) r = r ≡ pick (ltb (s .room) (wordsOf t)) (refused (answer 20 [])) (storing (suc (s .stores)))
 -- a clear is never refused
 Right s (clearing i) r = r ≡ cleared
--- the verdict is that of the list; the peak is 01's, and at most the worst case, which is at most 1,024; the generation is the standing table's
+-- the verdict is that of the list; the peak is 01's, and at most the worst case, which is at most 1,024; the generation
+-- is the standing table's
 Right s (asking subject out) r =
-    (r ≡ demanded (due (s .entries) subject) subject (length out) (λ list. matched list (verdictOn list) (peakDue (s .entries) subject) (s .stores)))
+    (r ≡ demanded (due (s .entries) subject) subject (length out)
+    (λ list. matched list (verdictOn list) (peakDue (s .entries) subject) (s .stores)))
     × (peakDue (s .entries) subject ≤ worstOf (s .entries)) × (worstOf (s .entries) ≤ 1024)
 Right s (resolving i subject out) r =
     r ≡ demanded (due (s .entries) subject) subject (length out) (λ list. resolved list (verdictOn list))
--- the two that feed `single_home` count as a match and a resolve: refused when these are, with the verdict of their list
+-- the two that feed `single_home` count as a match and a resolve: refused when these are, with the verdict of their
+-- list
 Right s (askingHome subject out) r =
-    (r ≡ demanded (due (s .entries) subject) subject (length out) (λ list. home (verdictOn list) (peakDue (s .entries) subject ∷ s .stores ∷ [])))
+    (r ≡ demanded (due (s .entries) subject) subject (length out)
+    (λ list. home (verdictOn list) (peakDue (s .entries) subject ∷ s .stores ∷ [])))
     × (peakDue (s .entries) subject ≤ worstOf (s .entries)) × (worstOf (s .entries) ≤ 1024)
 Right s (resolvingHome i subject out) r =
     r ≡ demanded (due (s .entries) subject) subject (length out) (λ list. home (verdictOn list) [])
@@ -114,7 +126,8 @@ abbrev pub AllRight : Standing → List (Call × Reply × Cabinet) → Type 0
 AllRight s [] = Unit {0}
 AllRight s (x ∷ xs) = Right s (x .0) (x .1) × AllRight (standingAfter s (x .0)) xs
 
--- 12: "start plus length exceeds the bytes of the lent text store"; 13, "holding the refusal 1 to 9 of that entry's text"
+-- 12: "start plus length exceeds the bytes of the lent text store"; 13, "holding the refusal 1 to 9 of that entry's
+-- text"
 abbrev pub holding : Answer → Option Answer
 holding (answer zero values) = none
 holding (answer (suc n) values) = some (answer 13 (suc n ∷ values))
@@ -129,8 +142,10 @@ abbrev pub entriesRefused : List ℕ → ℕ → List Entry → Option Answer
 entriesRefused texts index [] = none
 entriesRefused texts index (e ∷ es) = firstOf (entryRefused texts index e) (entriesRefused texts (index + 1) es)
 
--- a build is refused exactly when its list has over 2,048 entries (10), an entry's text lies outside the store or is no pattern (12, 13, the first such entry), the lent nodes are
--- fewer than the distinct runs (14), the target words fewer than the entries (15), or the worst case is over 1,024 (16); otherwise it gives these two counts
+-- a build is refused exactly when its list has over 2,048 entries (10), an entry's text lies outside the store or is no
+-- pattern (12, 13, the first such entry), the lent nodes are
+-- fewer than the distinct runs (14), the target words fewer than the entries (15), or the worst case is over 1,024
+-- (16); otherwise it gives these two counts
 abbrev pub built : List Entry → List ℕ → ℕ → ℕ → ℕ → List TableEntry → Answer
 built list texts nodesLent targetsLent generation es =
     pick (ltb 2048 (length list)) (answer 10 [])
@@ -142,16 +157,19 @@ built list texts nodesLent targetsLent generation es =
 
 abbrev pub BuildRight : List Entry → List ℕ → ℕ → ℕ → ℕ → Type 0
 BuildRight list texts nodesLent targetsLent generation =
-    buildSays list texts nodesLent targetsLent generation ≡ built list texts nodesLent targetsLent generation (readFrom texts list)
+    buildSays list texts nodesLent targetsLent generation
+    ≡ built list texts nodesLent targetsLent generation (readFrom texts list)
 
--- the making of the snapshot is refused exactly when its area is shorter than the first table, with 20, for a built table's counts are within its areas (19);
+-- the making of the snapshot is refused exactly when its area is shorter than the first table, with 20, for a built
+-- table's counts are within its areas (19);
 -- it "keeps the generation that build gave it. Its counter starts at 1"
 abbrev pub SnapshotRight : Table → List ℕ → Type 0
 SnapshotRight t area =
     (make t area) .says
     ≡ pick (ltb (length area) (wordsOf t)) (answer 20 []) (answer 0 (t .nodes ∷ t .targets ∷ t .generation .0 ∷ 1 ∷ []))
 
--- 17: "capacity over 1,024, or the lent cache store is smaller than capacity slots"; a slot takes three numbers, 256 bytes and 16 targets
+-- 17: "capacity over 1,024, or the lent cache store is smaller than capacity slots"; a slot takes three numbers, 256
+-- bytes and 16 targets
 abbrev pub cacheShort : ℕ → Area → Bool
 cacheShort capacity a =
     or (ltb 1024 capacity)
@@ -159,7 +177,8 @@ cacheShort capacity a =
     (or (ltb (length (a .keys)) (256 * capacity))
     (ltb (length (a .kept)) (16 * capacity))))
 
--- the making of a cache is refused exactly so; "`with_capacity` turns 0 into 1"; "A fresh cache has generation, tick and walks 0", and no slot used
+-- the making of a cache is refused exactly so; "`with_capacity` turns 0 into 1"; "A fresh cache has generation, tick
+-- and walks 0", and no slot used
 abbrev pub cacheMade : ℕ → Area → Answer
 cacheMade capacity a = pick (cacheShort capacity a) (answer 17 []) (answer 0 (capacity ∷ 0 ∷ 0 ∷ 0 ∷ 0 ∷ []))
 
@@ -170,10 +189,12 @@ CacheRight n a = withCapacity n a ≡ cacheMade (max 1 n) a
 abbrev pub NewCacheRight : Area → Type 0
 NewCacheRight a = newCache a ≡ cacheMade 1024 a
 
--- "one fresh snapshot and fresh caches used with it alone": the states that accepted makings returned, and the areas that they left
+-- "one fresh snapshot and fresh caches used with it alone": the states that accepted makings returned, and the areas
+-- that they left
 pub record Opened (t : Table) (area : List ℕ) (b : Cabinet) : Type 0 where
   pub snapshotMade : make t area ≡ record { says = answer 0 (snapshotNumbers (b .snapshot)); area = b .words }
-  pub cachesMade : (i : ℕ) → (n : ℕ) × (withCapacity n (b .caches i .area) ≡ answer 0 (cacheNumbers (b .caches i .cache)))
+  pub cachesMade :
+      (i : ℕ) → (n : ℕ) × (withCapacity n (b .caches i .area) ≡ answer 0 (cacheNumbers (b .caches i .cache)))
 
 -- "The tables come from accepted builds and are lent with their areas as build left them"
 abbrev pub Lent : Call → Type 0
@@ -228,7 +249,9 @@ pub record Premises (t : Table) (es : List TableEntry) (calls : List Call) : Typ
 
 -- demand 3: builds, the makings and every call
 pub record Met (t : Table) (es : List TableEntry) (area : List ℕ) (b : Cabinet) (calls : List Call) : Type 0 where
-  pub buildsRight : (list : List Entry) (texts : List ℕ) (nodesLent targetsLent generation : ℕ) → BuildRight list texts nodesLent targetsLent generation
+  pub buildsRight :
+      (list : List Entry) (texts : List ℕ) (nodesLent targetsLent generation : ℕ)
+      → BuildRight list texts nodesLent targetsLent generation
   pub snapshotRight : SnapshotRight t area
   pub cachesRight : (n : ℕ) (a : Area) → CacheRight n a
   pub newCachesRight : (a : Area) → NewCacheRight a

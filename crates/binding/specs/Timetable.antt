@@ -1,4 +1,5 @@
--- 01's timetable: its rows marked P as data. Those of texts and of tables without an area are sublist_tree's; here are those that build a table and make calls on it.
+-- 01's timetable: its rows marked P as data. Those of texts and of tables without an area are sublist_tree's; here are
+-- those that build a table and make calls on it.
 use Prim.Native.Nat.{ℕ, zero, suc, _+_, _*_}
 use Prim.Native.Char.{code}
 use Prim.Native.String.{String}
@@ -19,7 +20,8 @@ use Rattle.resolve_cache.specs.Cache.{fresh}
 use Rattle.resolve_cache.specs.Rows.{Row as CacheRow, holds as holdsLent, rows as cacheRows}
 use Rattle.binding.specs.declared.Resolution.{Resolution}
 use Rattle.binding.specs.declared.Resolution.the-variants.{Routed, NoStream, Ambiguous}
-use Rattle.binding.specs.Calls.{Call, store, clearing, asking, resolving, askingHome, resolvingHome, Reply, refused, storing, cleared, matched, resolved, home, Kept, Cabinet, reply, after}
+use Rattle.binding.specs.Calls.{Call, store, clearing, asking, resolving, askingHome, resolvingHome, Reply}
+use Rattle.binding.specs.Calls.{refused, storing, cleared, matched, resolved, home, Kept, Cabinet, reply, after}
 use Rattle.binding.specs.Demand.{Opened}
 
 -- the entries as a lent list: their texts one behind another in the store
@@ -28,27 +30,37 @@ texts es = concat (map (λ e. e .pattern) es)
 
 abbrev pub listFrom : ℕ → List TableEntry → List Entry
 listFrom at [] = []
-listFrom at (e ∷ es) = record { start = at; length = length (e .pattern); target = e .target } ∷ listFrom (at + length (e .pattern)) es
+listFrom at (e ∷ es) =
+    record { start = at; length = length (e .pattern); target = e .target }
+    ∷ listFrom (at + length (e .pattern)) es
 
 -- what build answers for these entries, lent so many nodes, and the table of generation 0 that it leaves
 abbrev pub buildFor : ℕ → List TableEntry → Answer
 buildFor nodes es = buildSays (listFrom 0 es) (texts es) nodes (length es) 0
 
 abbrev pub tableLeft : ℕ → ℕ → Filling → Table
-tableLeft nodes targets (filling a ts) = record { nodes = nodes; targets = targets; generation = record { 0 = 0 }; nodeWords = a; targetWords = ts }
+tableLeft nodes targets (filling a ts) =
+    record { nodes = nodes; targets = targets; generation = record { 0 = 0 }; nodeWords = a; targetWords = ts }
 
 abbrev pub tableOf : ℕ → List TableEntry → Table
-tableOf nodes es = tableLeft nodes (length es) (buildLeaves (listFrom 0 es) (texts es) (replicate (nodes * 16) 0) (replicate (length es) 0))
+tableOf nodes es =
+    tableLeft nodes (length es)
+    (buildLeaves (listFrom 0 es) (texts es) (replicate (nodes * 16) 0) (replicate (length es) 0))
 
 -- a snapshot's area as long as the table, a cache's area, and the cabinet of fresh makings in them
 abbrev pub wordsFor : Table → List ℕ
 wordsFor t = replicate (lengthOf t) 0
 
 abbrev pub slots : ℕ → Area
-slots capacity = record { heads = replicate (3 * capacity) 0; keys = replicate (256 * capacity) 0; kept = replicate (16 * capacity) 0 }
+slots capacity =
+    record { heads = replicate (3 * capacity) 0; keys = replicate (256 * capacity) 0; kept = replicate (16 * capacity) 0 }
 
 abbrev pub cabinet : ℕ → Table → Cabinet
-cabinet capacity t = record { snapshot = first t; words = copied t (wordsFor t); caches = λ i. record { cache = fresh capacity; area = slots capacity } }
+cabinet capacity t = record {
+  snapshot = first t;
+  words = copied t (wordsFor t);
+  caches = λ i. record { cache = fresh capacity; area = slots capacity };
+}
 
 -- the replies to a list of calls, and what the last call leaves
 abbrev pub replies : Cabinet → List Call → List Reply
@@ -81,7 +93,8 @@ pub data Row : Type 0 where
   -- a row of resolve_cache, one of ours
   lent : CacheRow → Row
   -- entries, a subject, its list and verdict, the peak, the worst case, the node count
-  asRoute : (entries : List TableEntry) (subject : String) (list : List ℕ) (verdict : Resolution) (peak worst nodes : ℕ) → Row
+  asRoute :
+      (entries : List TableEntry) (subject : String) (list : List ℕ) (verdict : Resolution) (peak worst nodes : ℕ) → Row
   -- the node count and entries of the first table, calls and their replies
   asCalls : (nodes : ℕ) (entries : List TableEntry) (calls : List Call) (answers : List Reply) → Row
   -- a capacity, calls on a cache over the empty table, the walks counted and the subjects kept at the end
@@ -110,9 +123,11 @@ holds (text row) = holdsText row
 holds (lent row) = holdsLent row
 holds (asRoute es subject list verdict peak worst nodes) =
     (buildFor nodes es ≡ answer 0 (nodes ∷ worst ∷ 0 ∷ [])) × Opens 1 (tableOf nodes es)
-    × (replies (cabinet 1 (tableOf nodes es)) (ask subject ∷ resolve subject ∷ []) ≡ matched list verdict peak 0 ∷ resolved list verdict ∷ [])
+    × (replies (cabinet 1 (tableOf nodes es)) (ask subject ∷ resolve subject ∷ [])
+    ≡ matched list verdict peak 0 ∷ resolved list verdict ∷ [])
 holds (asCalls nodes es calls answers) =
-    Accepts nodes es × All Stored calls × Opens 1 (tableOf nodes es) × (replies (cabinet 1 (tableOf nodes es)) calls ≡ answers)
+    Accepts nodes es × All Stored calls × Opens 1 (tableOf nodes es)
+    × (replies (cabinet 1 (tableOf nodes es)) calls ≡ answers)
 holds (asCache capacity calls walks kept) =
     let k = (leaving (cabinet capacity (tableOf 1 [])) calls) .caches 0 in
     Opens capacity (tableOf 1 []) × (k .cache .walks ≡ walks) × (subjectsIn k ≡ map bytes kept)
@@ -126,22 +141,27 @@ otherEntries = entry "c" 7 ∷ []
 
 abbrev pub everyCall : List Call
 everyCall =
-    ask "a.b" ∷ resolve "a.b" ∷ store (tableOf 2 otherEntries) otherEntries ∷ resolve "a.b" ∷ resolvingHome 0 (bytes "c") (0 ∷ [])
+    ask "a.b" ∷ resolve "a.b" ∷ store (tableOf 2 otherEntries) otherEntries ∷ resolve "a.b"
+    ∷ resolvingHome 0 (bytes "c") (0 ∷ [])
     ∷ clearing 0 ∷ resolve "*" ∷ askingHome (bytes "c") [] ∷ []
 
 -- the rows with calls
 unfoldable pub callRows : List Row
 callRows =
-    -- entries a.b 1, > 2, *.b 3, a.> 4, a.b 5; subject `a.b`: list 2, 4, 1, 5, 3; Ambiguous 5; peak 2, worst case 2, nodes 5
+    -- entries a.b 1, > 2, *.b 3, a.> 4, a.b 5; subject `a.b`: list 2, 4, 1, 5, 3; Ambiguous 5; peak 2, worst case 2,
+    -- nodes 5
     asRoute fiveEntries "a.b" (2 ∷ 4 ∷ 1 ∷ 5 ∷ 3 ∷ []) (Ambiguous 5) 2 2 5
     -- no entries, subject `a`: NoStream, peak 1, worst case 1, nodes 1
     ∷ asRoute [] "a" [] NoStream 1 1 1
     -- first table a 7, generation 0: resolve `a` is Routed 7; store the empty table (generation 1): NoStream
-    ∷ asCalls 2 (entry "a" 7 ∷ []) (resolve "a" ∷ store (tableOf 1 []) [] ∷ resolve "a" ∷ []) (resolved (7 ∷ []) (Routed 7) ∷ storing 1 ∷ resolved [] NoStream ∷ [])
-    -- ours, not 01's: calls of every kind on the five entries, with a store, a refused text and an output too short; demand 3's premises hold of them (Instance)
+    ∷ asCalls 2 (entry "a" 7 ∷ []) (resolve "a" ∷ store (tableOf 1 []) [] ∷ resolve "a" ∷ [])
+    (resolved (7 ∷ []) (Routed 7) ∷ storing 1 ∷ resolved [] NoStream ∷ [])
+    -- ours, not 01's: calls of every kind on the five entries, with a store, a refused text and an output too short;
+    -- demand 3's premises hold of them (Instance)
     ∷ asCalls 5 fiveEntries everyCall
     (matched (2 ∷ 4 ∷ 1 ∷ 5 ∷ 3 ∷ []) (Ambiguous 5) 2 0 ∷ resolved (2 ∷ 4 ∷ 1 ∷ 5 ∷ 3 ∷ []) (Ambiguous 5) ∷ storing 1
-    ∷ resolved [] NoStream ∷ home (Routed 7) [] ∷ cleared ∷ refused (answer 7 (code "*" ∷ 0 ∷ [])) ∷ refused (answer 21 (1 ∷ [])) ∷ [])
+    ∷ resolved [] NoStream ∷ home (Routed 7) [] ∷ cleared
+    ∷ refused (answer 7 (code "*" ∷ 0 ∷ [])) ∷ refused (answer 21 (1 ∷ [])) ∷ [])
     -- capacity 2, resolve p, q, p, r: q is dropped, walks 3
     ∷ asCache 2 (resolve "p" ∷ resolve "q" ∷ resolve "p" ∷ resolve "r" ∷ []) 3 ("p" ∷ "r" ∷ [])
     -- ours, not 01's: capacity 2, resolve p, clear, resolve p: walks 2

@@ -39,7 +39,8 @@ pub data Judged : Type 0 where
 
 -- of a match: the verdict on the list at the start of the output, then the peak and the generation
 abbrev pub judgeMatch : Outcome → Judged
-judgeMatch (outcome (answer zero values) out) = judged (singleHome (take (getD values 0 0) out)) (getD values 1 0 ∷ getD values 2 0 ∷ [])
+judgeMatch (outcome (answer zero values) out) =
+    judged (singleHome (take (getD values 0 0) out)) (getD values 1 0 ∷ getD values 2 0 ∷ [])
 judgeMatch (outcome (answer (suc k) values) out) = turnedDown (answer (suc k) values)
 
 -- of a resolve: the verdict on the list handed back
@@ -68,7 +69,8 @@ pub record CachedHomed : Type 0 where
   pub out : List ℕ
 
 abbrev pub judgeResolved : Resolved → CachedHomed
-judgeResolved r = record { says = judgeHanded (handed (r .says) (r .area .kept) (r .out)); cache = r .cache; area = r .area; out = r .out }
+judgeResolved r =
+    record { says = judgeHanded (handed (r .says) (r .area .kept) (r .out)); cache = r .cache; area = r .area; out = r .out }
 
 -- `resolve_single_home_cached`: a resolve
 unfoldable pub resolveSingleHomeCached : ResolveCache → Area → Snapshot → List ℕ → List ℕ → List ℕ → CachedHomed

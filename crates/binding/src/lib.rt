@@ -2,7 +2,8 @@
 ghost use mathlib.Core.Path.{_≡_};
 ghost use Rattle.resolve_cache.specs.Cache.{handed};
 ghost use Rattle.resolve_cache.specs.Answers.{resolveAnswer, lent};
-ghost use Rattle.binding.specs.Verdict.{singleHome, routed, isRouted, judgeHanded, resolveSingleHome, resolveSingleHomeCached};
+ghost use Rattle.binding.specs.Verdict.{singleHome, routed, isRouted, judgeHanded, resolveSingleHome};
+ghost use Rattle.binding.specs.Verdict.{resolveSingleHomeCached};
 ghost use Rattle.binding.specs.Answers.{cachedAnswer, homed, cachedHomed};
 use resolve_cache::ResolveAnswer;
 use resolve_cache::ResolveCache;
@@ -90,14 +91,17 @@ pub fn single_home(matched: &[u32]) -> Resolution
     Resolution::Ambiguous { matched: count }
 }
 
-// The verdict on the list that a match through the snapshot writes over the first places of the output: 1 to 9, then 19, then 21.
+// The verdict on the list that a match through the snapshot writes over the first places of the output: 1 to 9, then
+// 19, then 21.
 pub fn resolve_single_home(
     snapshot: Snapshot,
     area: &[u32],
     subject: &[u8],
     out: &mut [u32],
 ) -> SingleHome
-    ensures { λ r. ⌜ homed r (now (out .exit)) ≡ resolveSingleHome snapshot (now (area .entry)) (now (subject .entry)) (now (out .entry)) ⌝ }
+    ensures { λ r. ⌜
+        homed r (now (out .exit))
+        ≡ resolveSingleHome snapshot (now (area .entry)) (now (subject .entry)) (now (out .entry)) ⌝ }
 {
     match snapshot.match_into(area, subject, out) {
         SnapshotMatch::Invalid(e) => SingleHome::Invalid(e),
@@ -117,7 +121,8 @@ pub fn resolve_single_home(
 
 // The verdict on the list that a resolve hands back, or its refusal.
 fn judge<'a>(answer: ResolveAnswer, kept: &'a [u32], out: &'a [u32]) -> CachedSingleHome
-    ensures { λ r. ⌜ cachedAnswer r ≡ judgeHanded (handed (resolveAnswer answer) (now (kept .entry)) (now (out .entry))) ⌝ }
+    ensures { λ r. ⌜
+        cachedAnswer r ≡ judgeHanded (handed (resolveAnswer answer) (now (kept .entry)) (now (out .entry))) ⌝ }
 {
     let list = answer.list(kept, out);
     match answer {
@@ -142,7 +147,10 @@ pub fn resolve_single_home_cached(
     subject: &[u8],
     out: &mut [u32],
 ) -> CachedResolution
-    ensures { λ r. ⌜ cachedHomed r (lent (now (heads .exit)) (now (keys .exit)) (now (kept .exit))) (now (out .exit)) ≡ resolveSingleHomeCached cache (lent (now (heads .entry)) (now (keys .entry)) (now (kept .entry))) snapshot (now (area .entry)) (now (subject .entry)) (now (out .entry)) ⌝ }
+    ensures { λ r. ⌜
+        cachedHomed r (lent (now (heads .exit)) (now (keys .exit)) (now (kept .exit))) (now (out .exit))
+        ≡ resolveSingleHomeCached cache (lent (now (heads .entry)) (now (keys .entry)) (now (kept .entry)))
+        snapshot (now (area .entry)) (now (subject .entry)) (now (out .entry)) ⌝ }
 {
     let resolved = cache.resolve(heads, keys, kept, snapshot, area, subject, out);
     let cache = resolved.cache;

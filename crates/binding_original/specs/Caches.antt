@@ -1,4 +1,5 @@
--- Demand 2 for lists of calls. A cache of the original's beside one of ours: the same numbers, and the same subjects kept, each with the same list and stamp.
+-- Demand 2 for lists of calls. A cache of the original's beside one of ours: the same numbers, and the same subjects
+-- kept, each with the same list and stamp.
 use Prim.Native.Nat.{ℕ, _<_}
 use mathlib.Core.Path.{_≡_}
 use mathlib.Core.Bool.{Bool, true, false, not}
@@ -13,11 +14,15 @@ use Rattle.resolve_cache.specs.Area.{Area, stampAt, keyAt, targetsAt}
 use Rattle.binding.specs.Calls as ours
 use Rattle.binding.specs.Calls.{Call, store, clearing, asking, resolving, askingHome, resolvingHome, reply}
 use Rattle.binding_original.specs.Original.{CacheEntry, Iter, ResolveCache, len, walk-count}
-use Rattle.binding_original.specs.Calls.{Yard, cabinetOf, NamedCall, replyOn, afterOn, World, Asked, call, Compared}
+use Rattle.binding_original.specs.Calls.{Yard, cabinetOf, NamedCall, replyOn, afterOn, World, Asked, call}
+use Rattle.binding_original.specs.Calls.{Compared}
 
 -- what slot i of ours keeps: the subject, and its list and stamp
 abbrev pub row : Area → ℕ → Str × CacheEntry ℕ
-row a i = (keyAt (a .heads) (a .keys) i, record { targets = targetsAt (a .heads) (a .kept) i; last-used = stampAt (a .heads) i })
+row a i = (
+  keyAt (a .heads) (a .keys) i,
+  record { targets = targetsAt (a .heads) (a .kept) i; last-used = stampAt (a .heads) i },
+)
 
 pub record SameKept (k : ours.Kept) (o : ResolveCache ℕ) : Type 0 where
   pub capacity : o .capacity ≡ k .cache .capacity
@@ -27,9 +32,11 @@ pub record SameKept (k : ours.Kept) (o : ResolveCache ℕ) : Type 0 where
   pub used : len o ≡ k .cache .used
   -- every used slot is an entry, and every entry a used slot
   pub kept : (i : ℕ) → i < k .cache .used → List·Memᴰ (row (k .area) i) (o .entries)
-  pub only : (x : Str × CacheEntry ℕ) → List·Memᴰ x (o .entries) → (i : ℕ) × (i < k .cache .used) × (x ≡ row (k .area) i)
+  pub only :
+      (x : Str × CacheEntry ℕ) → List·Memᴰ x (o .entries) → (i : ℕ) × (i < k .cache .used) × (x ≡ row (k .area) i)
 
--- what is known so far: which caches had a resolve of a subject over 256 bytes or with a list over 16 targets, which snapshots calls were made on, the generations of the tables that stood
+-- what is known so far: which caches had a resolve of a subject over 256 bytes or with a list over 16 targets, which
+-- snapshots calls were made on, the generations of the tables that stood
 -- there, and whether two of them had one
 pub record Seen : Type 0 where
   pub spoiled : ℕ → Bool
@@ -43,7 +50,12 @@ unseen = record { spoiled = λ i. false; named = []; stood = []; mixed = false }
 
 -- a table of generation g stood in snapshot j
 abbrev pub standing : Seen → ℕ → ℕ → Seen
-standing k j g = record { spoiled = k .spoiled; named = j ∷ k .named; stood = g ∷ k .stood; mixed = or (k .mixed) (among g (k .stood)) }
+standing k j g = record {
+  spoiled = k .spoiled;
+  named = j ∷ k .named;
+  stood = g ∷ k .stood;
+  mixed = or (k .mixed) (among g (k .stood));
+}
 
 -- the first call on snapshot j meets its first table, of generation g
 abbrev pub meeting : Seen → ℕ → ℕ → Seen
@@ -97,9 +109,15 @@ stamps k j (ours.home verdict values) = k
 abbrev pub seenAfter : Seen → Yard → NamedCall → Seen
 seenAfter k y (j, c) =
     let t = stamps (metBy k y (j, c)) j (replyOn y (j, c)) in
-    record { spoiled = λ i. or (t .spoiled i) (spoils (counted c) (replyOn y (j, counted c)) i); named = t .named; stood = t .stood; mixed = t .mixed }
+    record {
+      spoiled = λ i. or (t .spoiled i) (spoils (counted c) (replyOn y (j, counted c)) i);
+      named = t .named;
+      stood = t .stood;
+      mixed = t .mixed;
+    }
 
--- "from a cache's first such resolve on, only lists and verdicts are compared with `resolve_with`, and only while no two tables that stood had one generation"
+-- "from a cache's first such resolve on, only lists and verdicts are compared with `resolve_with`, and only while no
+-- two tables that stood had one generation"
 abbrev pub compares : Seen → Call → Bool
 compares k (store t es) = true
 compares k (clearing i) = true
@@ -118,4 +136,5 @@ module _ (std : Std) (iter : Iter ℕ) where
   EachSame k y w [] = CachesSame k y w
   EachSame k y w ((n, d) ∷ rest) =
       CachesSame k y w
-      × Compared (compares (metBy k y n) (n .1)) (replyOn y n) w (call std iter w d) (λ v. EachSame (seenAfter k y n) (afterOn y n) v rest)
+      × Compared (compares (metBy k y n) (n .1)) (replyOn y n) w (call std iter w d)
+      (λ v. EachSame (seenAfter k y n) (afterOn y n) v rest)

@@ -1,4 +1,5 @@
--- Calls on any snapshots and any caches of the original's beside calls on ours, and when their answers are the same. Each call names its snapshot and its cache by number: any pair of them may meet in a resolve.
+-- Calls on any snapshots and any caches of the original's beside calls on ours, and when their answers are the same.
+-- Each call names its snapshot and its cache by number: any pair of them may meet in a resolve.
 use Prim.Native.Nat.{ℕ, _≤_}
 use mathlib.Core.Path.{_≡_}
 use mathlib.Core.Bool.{Bool, true, false}
@@ -16,9 +17,12 @@ use Rattle.binding.specs.declared.Resolution as verdict
 use Rattle.binding.specs.declared.Resolution.the-variants as variants
 use Rattle.binding.specs.Calls as ours
 use Rattle.sublist_snapshot.specs.declared.Snapshot.{Snapshot}
-use Rattle.binding.specs.Calls.{Call, store, clearing, asking, resolving, askingHome, resolvingHome, Kept, Cabinet, reply, after}
+use Rattle.binding.specs.Calls.{Call, store, clearing, asking, resolving, askingHome, resolvingHome, Kept, Cabinet}
+use Rattle.binding.specs.Calls.{reply, after}
 use Rattle.binding_original.specs.Original as original
-use Rattle.binding_original.specs.Original.{SublistSnapshot, Iter, ResolveCache, Resolution, Routed, NoStream, Ambiguous, single-home, resolve, snapshot-match-into, resolve-single-home, resolve-single-home-cached}
+use Rattle.binding_original.specs.Original.{SublistSnapshot, Iter, ResolveCache, Resolution, Routed, NoStream}
+use Rattle.binding_original.specs.Original.{Ambiguous, single-home, resolve, snapshot-match-into}
+use Rattle.binding_original.specs.Original.{resolve-single-home, resolve-single-home-cached}
 
 -- ---- ours
 
@@ -38,7 +42,10 @@ cabinetOf y j = record { snapshot = y .snapshots j .snapshot; words = y .snapsho
 
 -- what a call on them left
 abbrev pub with-cabinet : Yard → ℕ → Cabinet → Yard
-with-cabinet y j b = record { snapshots = λ i. pick (eqb j i) (record { snapshot = b .snapshot; words = b .words }) (y .snapshots i); caches = b .caches }
+with-cabinet y j b = record {
+  snapshots = λ i. pick (eqb j i) (record { snapshot = b .snapshot; words = b .words }) (y .snapshots i);
+  caches = b .caches;
+}
 
 -- a call, and the number of the snapshot that it is made on; a clear works on its cache alone
 abbrev pub NamedCall : Type 0
@@ -72,7 +79,8 @@ pub data Asked : Type 0 where
   homes : ℕ → Str → Asked
   homesCached : ℕ → ℕ → Str → Asked
 
--- what they answer: the generation of a store; the list and generation of a match; the list of a resolve; the verdict of the two that feed `single_home`
+-- what they answer: the generation of a store; the list and generation of a match; the list of a resolve; the verdict
+-- of the two that feed `single_home`
 pub data Told : Type 0 where
   refused : Error → Told
   storing : ℕ → Told
@@ -112,7 +120,8 @@ verdictOf (Routed t) = variants.Routed t
 verdictOf NoStream = variants.NoStream
 verdictOf (Ambiguous n) = variants.Ambiguous n
 
--- an answer of theirs in our terms: a refusal has 01's number and values. `more` is what ours has besides: the peak of a match, and the generation of a verdict by a match.
+-- an answer of theirs in our terms: a refusal has 01's number and values. `more` is what ours has besides: the peak of
+-- a match, and the generation of a verdict by a match.
 -- Of a list ours also has the verdict that `single_home` gives on it.
 abbrev pub told : List ℕ → Told → ours.Reply
 told more (refused e) = ours.refused (answerOf (subject.Err e))
@@ -143,9 +152,14 @@ refusing (ours.matched list verdict peak g) = false
 refusing (ours.resolved list verdict) = false
 refusing (ours.home verdict values) = false
 
--- their call does not panic, our answer is theirs if `compared` says that it is to be, and `rest` holds of what is there then
+-- their call does not panic, our answer is theirs if `compared` says that it is to be, and `rest` holds of what is
+-- there then
 abbrev pub Answered : Bool → ours.Reply → Outcome (Told × World) → (World → Type 0) → Type 0
-Answered compared r given rest = (x : Told × World) × (given ≡ Ok x) × (pick (or (refusing r) compared) ((more : List ℕ) × (r ≡ told more (x .0))) (Unit {0})) × rest (x .1)
+Answered compared r given rest =
+    (x : Told × World)
+    × (given ≡ Ok x)
+    × (pick (or (refusing r) compared) ((more : List ℕ) × (r ≡ told more (x .0))) (Unit {0}))
+    × rest (x .1)
 
 -- "a call refused by an added number is not made on the Rust's side"; any other is
 abbrev pub Compared : Bool → ours.Reply → World → Outcome (Told × World) → (World → Type 0) → Type 0

@@ -1,6 +1,9 @@
--- The original, IronBus's snapshot (sublist.rs 653-743), resolve_cache.rs and binding.rs, over values, to be read beside them. `sublist.rs N-M` names the lines that a definition stands for.
--- Names are the Rust's, with `-` for `_`. The `ArcSwap` is the table that it holds, an atomic its number: there is one thread. What is changed through `&self` or `&mut self` is an argument, and comes back changed.
--- A u64 is a number. `wrapping_add` and `fetch_add` go modulo 2^64, and so does `+=`, as in a release build; a debug build panics there instead.
+-- The original, IronBus's snapshot (sublist.rs 653-743), resolve_cache.rs and binding.rs, over values, to be read
+-- beside them. `sublist.rs N-M` names the lines that a definition stands for.
+-- Names are the Rust's, with `-` for `_`. The `ArcSwap` is the table that it holds, an atomic its number: there is one
+-- thread. What is changed through `&self` or `&mut self` is an argument, and comes back changed.
+-- A u64 is a number. `wrapping_add` and `fetch_add` go modulo 2^64, and so does `+=`, as in a release build; a debug
+-- build panics there instead.
 -- The table, its `build` and its `match_into` are those of the crate `sublist_original`.
 use Prim.Native.Nat.{ℕ, _+_, _%_, _^_, _≤_, max}
 use mathlib.Core.Path.{_≡_}
@@ -11,7 +14,8 @@ use lib.Dec.{eqb, ltb}
 use lib.ListN.{length}
 use Rattle.subject.specs.Original.{if_then_else_, Str, equal}
 use Rattle.sublist_original.specs.Original as sublist
-use Rattle.sublist_original.specs.Original.{Outcome, Ok, Err, Panic, _>>=_, push, Std, Sublist, build, match-into, match-subject}
+use Rattle.sublist_original.specs.Original.{Outcome, Ok, Err, Panic, _>>=_, push, Std, Sublist, build, match-into}
+use Rattle.sublist_original.specs.Original.{match-subject}
 
 abbrev pub wrapping-add : ℕ → ℕ → ℕ
 wrapping-add a b = (a + b) % 2 ^ 64
@@ -110,11 +114,14 @@ module _ {T : Type 0} where
   Each P [] = Unit {0}
   Each P (x ∷ rest) = P x × Each P rest
 
--- `iter().min_by_key(|(_, e)| e.last_used)`: Rust leaves the order of a HashMap's `iter` open, and with it which of several entries of smallest `last_used` is given. Any one may be.
+-- `iter().min_by_key(|(_, e)| e.last_used)`: Rust leaves the order of a HashMap's `iter` open, and with it which of
+-- several entries of smallest `last_used` is given. Any one may be.
 pub record Iter (T : Type 0) : Type 0 where
   pub min-by-last-used : HashMap T → Option (Str × CacheEntry T)
   pub given : (entries : HashMap T) (x : Str × CacheEntry T) → min-by-last-used entries ≡ some x → List·Memᴰ x entries
-  pub smallest : (entries : HashMap T) (x : Str × CacheEntry T) → min-by-last-used entries ≡ some x → Each (λ y. x .1 .last-used ≤ y .1 .last-used) entries
+  pub smallest :
+      (entries : HashMap T) (x : Str × CacheEntry T) → min-by-last-used entries ≡ some x
+      → Each (λ y. x .1 .last-used ≤ y .1 .last-used) entries
   pub none-if-empty : (entries : HashMap T) → min-by-last-used entries ≡ none → entries ≡ []
 
 -- resolve_cache.rs 114-129
@@ -163,7 +170,9 @@ module _ {T : Type 0} where
 
   -- resolve_cache.rs 274-288: the entries then
   abbrev pub evict-if-full : Iter T → ResolveCache T → HashMap T
-  evict-if-full iter cache = if ltb (length (cache .entries)) (cache .capacity) then cache .entries else without (iter .min-by-last-used (cache .entries)) (cache .entries)
+  evict-if-full iter cache =
+      if ltb (length (cache .entries)) (cache .capacity) then cache .entries
+      else without (iter .min-by-last-used (cache .entries)) (cache .entries)
 
   -- resolve_cache.rs 244-245: the cache behind a hit
   abbrev pub hit : ResolveCache T → Str → ResolveCache T

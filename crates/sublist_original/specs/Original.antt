@@ -1,8 +1,13 @@
--- The original, IronBus's sublist.rs without the snapshot, over values, to be read beside it. `sublist.rs N-M` names the lines that a definition stands for; the order of tests is theirs.
--- Names are the Rust's, with `-` for `_`. A `&str` or a `String` is the list of its UTF-8 bytes; a `Vec` or a slice is a list; a `usize`, a `u64` and a `u32` are numbers.
--- What a loop changes, and what its iterators have left, are arguments of the function that stands for the loop. What is lent as `&mut` is an argument, and comes back changed.
--- `Panic` is where the Rust stops: an index outside its list, an `expect` on a number that does not fit a `u32`, a `debug_assert!` that fails.
--- The parser is that of subject.rs, transcribed in the crate `subject`. FNV-1a stands in for `xxh3_64`. Nothing else of ours is cited.
+-- The original, IronBus's sublist.rs without the snapshot, over values, to be read beside it. `sublist.rs N-M` names
+-- the lines that a definition stands for; the order of tests is theirs.
+-- Names are the Rust's, with `-` for `_`. A `&str` or a `String` is the list of its UTF-8 bytes; a `Vec` or a slice is
+-- a list; a `usize`, a `u64` and a `u32` are numbers.
+-- What a loop changes, and what its iterators have left, are arguments of the function that stands for the loop. What
+-- is lent as `&mut` is an argument, and comes back changed.
+-- `Panic` is where the Rust stops: an index outside its list, an `expect` on a number that does not fit a `u32`, a
+-- `debug_assert!` that fails.
+-- The parser is that of subject.rs, transcribed in the crate `subject`. FNV-1a stands in for `xxh3_64`. Nothing else of
+-- ours is cited.
 use Prim.Native.Nat.{ℕ, zero, suc, _+_, _-_, _≤_, max}
 use mathlib.Core.Path.{_≡_}
 use mathlib.Core.Bool.{Bool, true, false, not, _&&_}
@@ -110,18 +115,27 @@ pub data Reordered : List Literal → List Literal → Type 0 where
   swap : {x y : Literal} {xs : List Literal} → Reordered (x ∷ (y ∷ xs)) (y ∷ (x ∷ xs))
   in-turn : {xs ys zs : List Literal} → Reordered xs ys → Reordered ys zs → Reordered xs zs
 
--- The two functions of Rust's library whose results its documentation leaves open, with the hash for a key. The theorems hold for every choice within its words:
--- `sort_unstable_by_key`: "Sorts the slice in ascending order with a key extraction function, without preserving the initial order of equal elements."
--- `binary_search_by_key`: "If the slice is not sorted by the key, the returned result is unspecified and meaningless. If the value is found then Result::Ok is returned, containing the
---   index of the matching element. If there are multiple matches, then any one of the matches could be returned. [..] If the value is not found then Result::Err is returned [..]".
--- `.ok()` makes `Err` none. In a table that `build` gives there is one match at the most: no two literals of a node have one hash (`keys-apart`).
+-- The two functions of Rust's library whose results its documentation leaves open, with the hash for a key. The
+-- theorems hold for every choice within its words:
+-- `sort_unstable_by_key`: "Sorts the slice in ascending order with a key extraction function, without preserving the
+-- initial order of equal elements."
+-- `binary_search_by_key`: "If the slice is not sorted by the key, the returned result is unspecified and meaningless.
+-- If the value is found then Result::Ok is returned, containing the
+--   index of the matching element. If there are multiple matches, then any one of the matches could be returned. [..] If
+-- the value is not found then Result::Err is returned [..]".
+-- `.ok()` makes `Err` none. In a table that `build` gives there is one match at the most: no two literals of a node
+-- have one hash (`keys-apart`).
 pub record Std : Type 0 where
   pub sort-unstable-by-key : List Literal → List Literal
   pub ascending : (xs : List Literal) → Ascending (sort-unstable-by-key xs)
   pub reordered : (xs : List Literal) → Reordered xs (sort-unstable-by-key xs)
   pub binary-search-by-key : List Literal → ℕ → Option ℕ
-  pub found : (xs : List Literal) (key i : ℕ) → Ascending xs → binary-search-by-key xs key ≡ some i → (x : Literal) × (xs ! i ≡ Ok x) × (x .0 ≡ key)
-  pub missing : (xs : List Literal) (key : ℕ) → Ascending xs → binary-search-by-key xs key ≡ none → Each (λ x. x .0 ≡ key → ⊥) xs
+  pub found :
+      (xs : List Literal) (key i : ℕ) → Ascending xs → binary-search-by-key xs key ≡ some i
+      → (x : Literal) × (xs ! i ≡ Ok x) × (x .0 ≡ key)
+  pub missing :
+      (xs : List Literal) (key : ℕ) → Ascending xs → binary-search-by-key xs key ≡ none
+      → Each (λ x. x .0 ≡ key → ⊥) xs
 
 -- THE LIST OF ENTRIES
 
@@ -135,7 +149,9 @@ new = record { entries = [] }
 
 -- sublist.rs 244-249: the builder then; one that is refused stays as it was
 abbrev pub insert : {T : Type 0} → SublistBuilder T → Str → T → subject.Result (SublistBuilder T)
-insert builder pattern target = subject._>>=_ (validate pattern true) (λ depth. subject.Ok (record { entries = push (builder .entries) (pattern, target) }))
+insert builder pattern target =
+    subject._>>=_ (validate pattern true)
+    (λ depth. subject.Ok (record { entries = push (builder .entries) (pattern, target) }))
 
 -- calls of `insert` one after the other, up to the first that is refused
 abbrev pub insert-all : {T : Type 0} → SublistBuilder T → List (Str × T) → subject.Result (SublistBuilder T)
@@ -174,7 +190,14 @@ root-alone = record { nodes = new-scratch ∷ []; terminals = [] ∷ []; gt-term
 unfoldable pub new-node : {T : Type 0} → Arena T → Outcome (NodeId × Arena T)
 new-node arena = do
   id ← u32-from (length (arena .nodes))
-  Ok (id, record { nodes = push (arena .nodes) new-scratch; terminals = push (arena .terminals) []; gt-terminals = push (arena .gt-terminals) [] })
+  Ok (
+    id,
+    record {
+      nodes = push (arena .nodes) new-scratch;
+      terminals = push (arena .terminals) [];
+      gt-terminals = push (arena .gt-terminals) [];
+    },
+  )
 
 -- a node with its lists of targets beside it, the node changed
 abbrev pub change-node : {T : Type 0} → Arena T → NodeId → (NodeScratch → NodeScratch) → Outcome (Arena T)
@@ -324,7 +347,9 @@ module _ (std : Std) where
     tail ← arena .gt-terminals ! i
     gt ← push-range (term .1) tail
     let literals = std .sort-unstable-by-key (scratch .literals) in
-        each-scratch arena (suc i) rest (gt .1) (push final-nodes (record { literals = literals; star-child = scratch .star-child; terminal = term .0; gt-terminal = gt .0 }))
+        each-scratch arena (suc i) rest (gt .1)
+        (push final-nodes
+        (record { literals = literals; star-child = scratch .star-child; terminal = term .0; gt-terminal = gt .0 }))
 
   -- sublist.rs 281-362
   unfoldable pub build : {T : Type 0} → SublistBuilder T → ℕ → Outcome (Sublist T)

@@ -1,4 +1,5 @@
--- Demand 2 for lists and tables: inserts of ours beside those of the original, from an empty list on, and the table and the lists that both then give.
+-- Demand 2 for lists and tables: inserts of ours beside those of the original, from an empty list on, and the table and
+-- the lists that both then give.
 use Prim.Native.Nat.{ℕ, _/_, _≤_}
 use mathlib.Core.Path.{_≡_}
 use mathlib.Core.Bool.{Bool, true, false}
@@ -21,7 +22,8 @@ use Rattle.sublist_entries.specs.Inserts.{Desk, insertOn, deskAfter}
 use Rattle.sublist.specs.Building.{held, needed, worstOf}
 use Rattle.sublist.specs.Passes.{nodeWordsIn, targetWordsIn}
 use Rattle.sublist.specs.Leaving.{BuildOutcome, buildInto}
-use Rattle.sublist_original.specs.Original.{Outcome, Ok, Err, Panic, InvalidPattern, ForkLimitExceeded, Std, SublistBuilder, insert, Sublist, build, node-count, match-into}
+use Rattle.sublist_original.specs.Original.{Outcome, Ok, Err, Panic, InvalidPattern, ForkLimitExceeded, Std}
+use Rattle.sublist_original.specs.Original.{SublistBuilder, insert, Sublist, build, node-count, match-into}
 
 -- ---- inserts
 
@@ -47,7 +49,8 @@ EachInsertSame last d builder (e ∷ es) =
 
 -- ---- the table, and what is found in it
 
--- a match of ours gives their list, written over the output, or 21 where that is shorter; a text that `parse_literal` refuses has its refusal
+-- a match of ours gives their list, written over the output, or 21 where that is shorter; a text that `parse_literal`
+-- refuses has its refusal
 abbrev pub SameMatch : subject.Result ℕ → Outcome (List ℕ) → List ℕ → ours.Outcome → Type 0
 SameMatch (subject.Err e) theirs out o = o ≡ outcome (answerOf (subject.Err e)) out
 SameMatch (subject.Ok depth) (Ok list) out o = (peak : ℕ) × (o ≡ written (found list peak) out)
@@ -66,7 +69,8 @@ pub record SameTable (std : Std) (table : Sublist ℕ) (count : ℕ) (o : BuildO
       → SameMatch (validate text false) (match-into std table text []) out
       (matchTable (node-count table) count (nodeWordsIn (o .areas)) (targetWordsIn (o .areas)) text out)
 
--- a build of ours of so many entries is theirs: 13 holds the refusal of the first pattern that is refused, 16 has the same two numbers. Theirs does not panic.
+-- a build of ours of so many entries is theirs: 13 holds the refusal of the first pattern that is refused, 16 has the
+-- same two numbers. Theirs does not panic.
 abbrev pub SameBuild : Std → Outcome (Sublist ℕ) → ℕ → BuildOutcome → Type 0
 SameBuild std (Ok table) count o = SameTable std table count o
 SameBuild std (Err (InvalidPattern e)) count o = o .says ≡ held (answerOf (subject.Err e))
