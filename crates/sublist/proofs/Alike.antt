@@ -1,16 +1,15 @@
 -- Two texts read side by side, token by token, as long as their keys are equal. Assumes nothing.
-use Prim.Native.Nat.{ℕ, suc, _+_, _-_, _≤_, _<_}
+use Prim.Native.Nat.{ℕ, suc}
 use mathlib.Core.Path.{_≡_, refl, sym, _∙_, ap}
 use mathlib.Core.Bool.{Bool, true, false, not}
 use mathlib.Core.List.{List, [], _∷_}
 use borrow.Author.Tests.{eq-eqb}
 use lib.Dec.{eqb}
-use lib.ListN.{length, take, drop}
 use Rattle.subject.specs.Choice.{pick, and, or}
 use Rattle.subject.specs.Text.{isStar, isTail, same}
-use Rattle.subject.specs.Reading.{dotFrom, tokensFrom}
+use Rattle.subject.specs.Reading.{tokensFrom}
 use Rattle.subject.specs.Fnv.{fnv}
-use Rattle.subject.proofs.Positions.{tokens-start, tokens-end, tokens-next}
+use Rattle.subject.proofs.Positions.{tokens-start}
 use Rattle.sublist_tree.specs.Tree.{Key, star, lit, Line, line, onto, lineOf, keyIs}
 use Rattle.sublist_tree.proofs.Bytes.{same-sound}
 use Rattle.sublist.specs.Sharing.{keysOf, shared, keysIn, keyOf, sameKey, sharedBy}
@@ -73,17 +72,16 @@ module _ (a b : List ℕ) where
   from-start = rw (tokens-start a, tokens-start b)
 
   module _ (i j : ℕ) where
-    pub end-left : length a < i → sharedFrom a i b j ≡ 0
+    pub end-left : tokensFrom a i ≡ [] → sharedFrom a i b j ≡ 0
     unfolding sharedFrom
-    end-left h = rw (tokens-end a i h)
+    end-left e = rw e
 
-    pub end-right : length b < j → sharedFrom a i b j ≡ 0
+    pub end-right : tokensFrom b j ≡ [] → sharedFrom a i b j ≡ 0
     unfolding sharedFrom
-    end-right h = rw (tokens-end b j h) (shared-none (keysIn (tokensFrom a i)))
+    end-right e = rw e (shared-none (keysIn (tokensFrom a i)))
 
-    module _ (ha : i ≤ length a) (hb : j ≤ length b) (x y : ℕ) (ea : x ≡ dotFrom a i) (eb : y ≡ dotFrom b j) where
-      pub from-next : (r : Bool) → r ≡ sameKey (take (x - i) (drop i a)) (take (y - j) (drop j b)) → sharedFrom a i b j ≡ pick r (suc (sharedFrom a (x + 1) b (y + 1))) 0
-      unfolding sharedFrom
-      from-next r e =
-          rw (e, ea, eb, tokens-next a i ha, tokens-next b j hb)
-          (shared-next (take (dotFrom a i - i) (drop i a)) (take (dotFrom b j - j) (drop j b)) (tokensFrom a (dotFrom a i + 1)) (tokensFrom b (dotFrom b j + 1)))
+    -- a token of each
+    pub from-next : (s t : List ℕ) (x y : ℕ) → tokensFrom a i ≡ s ∷ tokensFrom a x → tokensFrom b j ≡ t ∷ tokensFrom b y
+        → (r : Bool) → r ≡ sameKey s t → sharedFrom a i b j ≡ pick r (suc (sharedFrom a x b y)) 0
+    unfolding sharedFrom
+    from-next s t x y ea eb r e = rw (e, ea, eb) (shared-next s t (tokensFrom a x) (tokensFrom b y))

@@ -5,6 +5,7 @@ pub mod Answers
 pub mod Builds
 pub mod Checks
 pub mod Composed
+pub mod Cutting
 pub mod Entering
 pub mod Filled
 pub mod Filling

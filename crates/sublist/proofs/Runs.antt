@@ -1,13 +1,10 @@
 -- What each way through a turn over a pattern's tokens makes of the run of its line.
-use Prim.Native.Nat.{ℕ, _+_, _-_, _≤_, _<_}
+use Prim.Native.Nat.{ℕ}
 use mathlib.Core.Path.{_≡_, refl, sym, _∙_}
 use mathlib.Core.Bool.{Bool, true, false}
 use mathlib.Core.List.{List, [], _∷_}
-use lib.ListN.{length, take, drop}
 use Rattle.subject.specs.Text.{isTail}
-use Rattle.subject.specs.Reading.{dotFrom, tokensFrom}
 use Rattle.subject.specs.Fnv.{fnv}
-use Rattle.subject.proofs.Positions.{tokens-end, tokens-next}
 use Rattle.sublist_tree.specs.Tree.{Key, Line, line, onto, lineOf}
 use Rattle.sublist_area.specs.declared.Placed.{Placed}
 use Rattle.sublist_area.specs.declared.Placed.the-variants.{At, Full, Broken}
@@ -44,26 +41,23 @@ line-tail t ts x e = rw e
 line-key : (t : List ℕ) (ts : List (List ℕ)) (x : ℕ) → isTail t ≡ false → lineOf fnv (t ∷ ts) x ≡ onto (tokenKey t) (lineOf fnv ts x)
 line-key t ts x e = rw e
 
--- x is where the whole line comes, and the tokens from a position on lead there from node i, in a, with n nodes
-module _ (x : Growth) (a : List ℕ) (n i : ℕ) (text : List ℕ) (at : ℕ) (e : runIn (At i n, a) (lineOf fnv (tokensFrom text at) 0) ≡ x) where
-  pub run-end : length text < at → growth n a (end i false ∷ []) ≡ x
+-- x is where the whole line comes, and the tokens that are left lead there from node i, in a, with n nodes
+module _ (x : Growth) (a : List ℕ) (n i : ℕ) (ts : List (List ℕ)) (e : runIn (At i n, a) (lineOf fnv ts 0) ≡ x) where
+  pub run-end : ts ≡ [] → growth n a (end i false ∷ []) ≡ x
   unfolding runIn grown
-  run-end h = rw (tokens-end text at h) at e
+  run-end none = rw none at e
 
-  module _ (h : at ≤ length text) (stop : ℕ) (d : stop ≡ dotFrom text at) (b : Bool) (t : b ≡ isTail (take (stop - at) (drop at text))) where
-    next : tokensFrom text at ≡ take (stop - at) (drop at text) ∷ tokensFrom text (stop + 1)
-    next = rw d (tokens-next text at h)
-
+  module _ (t : List ℕ) (rest : List (List ℕ)) (next : ts ≡ t ∷ rest) (b : Bool) (y : b ≡ isTail t) where
     pub run-tail : b ≡ true → growth n a (end i true ∷ []) ≡ x
     unfolding runIn grown
-    run-tail q = rw (next, line-tail _ (tokensFrom text (stop + 1)) 0 (sym t ∙ q)) at e
+    run-tail q = rw (next, line-tail t rest 0 (sym y ∙ q)) at e
 
-    module _ (q : b ≡ false) (r : Placed) (c : List ℕ) (s : (r, c) ≡ childOrNew a n i (tokenKey (take (stop - at) (drop at text)))) where
-      run-turn : runIn (r, c) (lineOf fnv (tokensFrom text (stop + 1)) 0) ≡ x
+    module _ (q : b ≡ false) (r : Placed) (c : List ℕ) (s : (r, c) ≡ childOrNew a n i (tokenKey t)) where
+      run-turn : runIn (r, c) (lineOf fnv rest 0) ≡ x
       unfolding onward
-      run-turn = rw s (sym (run-onto (At i n, a) _ _) ∙ (rw (next, line-key _ (tokensFrom text (stop + 1)) 0 (sym t ∙ q)) at e))
+      run-turn = rw s (sym (run-onto (At i n, a) _ _) ∙ (rw (next, line-key t rest 0 (sym y ∙ q)) at e))
 
-      pub run-on : (j m : ℕ) → r ≡ At j m → runIn (At j m, c) (lineOf fnv (tokensFrom text (stop + 1)) 0) ≡ x
+      pub run-on : (j m : ℕ) → r ≡ At j m → runIn (At j m, c) (lineOf fnv rest 0) ≡ x
       run-on j m p = rw p at run-turn
 
       pub run-full : r ≡ Full → stopped c ≡ x

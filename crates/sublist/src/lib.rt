@@ -21,10 +21,11 @@ ghost use Rattle.sublist.specs.Core.{checked, placeOf, tokenKey, runIn, 
 ghost use Rattle.sublist.specs.Leaving.{buildInto};
 use subject::Parsed;
 use subject::SubjectError;
-use subject::find_dot;
+use subject::Token;
 use subject::is_star;
 use subject::is_tail;
 use subject::same_bytes;
+use subject::token_at;
 use subject::token_hash;
 use sublist_area::Placed;
 use sublist_entries::ENTRY_NUMBERS;
@@ -151,16 +152,22 @@ fn insert_pattern(area: &mut [u32], nodes: usize, text: &[u8]) -> Ended
     let mut at = 0;
     let mut node = 0;
     let mut count = nodes;
-    while at <= text.len() {
-        let end = find_dot(text, at);
-        if is_tail(&text[at..end]) {
+    loop {
+        let Token::Part { start, end, next } = token_at(text, at) else {
+            return Ended::At {
+                node,
+                tail: false,
+                count,
+            };
+        };
+        if is_tail(&text[start..end]) {
             return Ended::At {
                 node,
                 tail: true,
                 count,
             };
         }
-        match token_or_new(area, count, node, &text[at..end]) {
+        match token_or_new(area, count, node, &text[start..end]) {
             Placed::At(id, n) => {
                 node = id;
                 count = n;
@@ -172,12 +179,7 @@ fn insert_pattern(area: &mut [u32], nodes: usize, text: &[u8]) -> Ended
                 return Ended::Full;
             }
         }
-        at = end + 1;
-    }
-    Ended::At {
-        node,
-        tail: false,
-        count,
+        at = next;
     }
 }
 
@@ -308,20 +310,25 @@ fn shared_run(a: &[u8], b: &[u8]) -> usize
     let mut shared = 0;
     let mut i = 0;
     let mut j = 0;
-    while i <= a.len() {
-        if b.len() < j {
+    loop {
+        let Token::Part { start, end, next } = token_at(a, i) else {
             return shared;
-        }
-        let i_end = find_dot(a, i);
-        let j_end = find_dot(b, j);
-        if !same_key(&a[i..i_end], &b[j..j_end]) {
+        };
+        let Token::Part {
+            start: from,
+            end: to,
+            next: then,
+        } = token_at(b, j)
+        else {
+            return shared;
+        };
+        if !same_key(&a[start..end], &b[from..to]) {
             return shared;
         }
         shared += 1;
-        i = i_end + 1;
-        j = j_end + 1;
+        i = next;
+        j = then;
     }
-    shared
 }
 
 // The most keys that a pattern begins with alike with one of the first i entries.

@@ -7,10 +7,11 @@ use lib.ListN.{length}
 use Rattle.subject.specs.Text.{tokens}
 use Rattle.subject.specs.Reading.{tokensFrom}
 use Rattle.subject.specs.Fnv.{fnv}
-use Rattle.subject.proofs.Positions.{dot-bounds, tokens-start}
+use Rattle.subject.proofs.Positions.{tokens-start}
 use Rattle.sublist_tree.specs.Tree.{lineOf}
 use Rattle.sublist_area.specs.declared.Placed.the-variants.{At}
 use Rattle.sublist.specs.Core.{runIn}
+use Rattle.sublist.proofs.Cutting.{end-met, part-bounds, part-met}
 use Rattle.sublist.proofs.Places.{place-fits}
 use Rattle.sublist.proofs.Runs.{run-end, run-tail, run-on, run-full, run-broken}
 use Rattle.sublist.proofs.insert_pattern.Statement.{statement}
@@ -27,45 +28,70 @@ abbrev μ-loop : tie.MeasureT-loop
 loop-holds : tie.Need-loop-holds Inv-loop μ-loop
 loop-holds c = (rw (tokens-start (c .before .before .args .text .now)), refl, search needs, search needs)
 
-find-dot-requires : tie.Need-find-dot-requires Inv-loop μ-loop
-find-dot-requires c κs = search needs
+token-at-requires : tie.Need-token-at-requires Inv-loop μ-loop
+token-at-requires c κs = search needs
+
+enum-known-start : tie.Need-enum-known-start Inv-loop μ-loop
+enum-known-start c = search needs
+
+enum-told : tie.Need-enum-told Inv-loop μ-loop
+enum-told c = search needs
+
+same-length : tie.Need-same-length Inv-loop μ-loop
+same-length c = c .before .before .before .loop .inv .1
+
+returns : tie.Need-returns Inv-loop μ-loop
+returns c =
+    let f = c .before .before in
+    let l = f .before .loop in
+    (run-end _ (l .area) (l .count) (l .node) _ (l .inv .0) (end-met _ _ _ (f .token-at .ensures) (c .enum-told .given .1)), (l .inv .2, l .inv .3))
 
 sub-is-tail : tie.Need-sub-is-tail Inv-loop μ-loop
-sub-is-tail c = omega (arith, dot-bounds _ _ (c .find-dot .ensures) (c .before .loop-test .taken))
+sub-is-tail c =
+    let s = c .before in
+    omega (arith, part-bounds _ _ _ (s .before .before .token-at .ensures) _ _ _ (s .start .given .1))
 
 part-is-tail-start : tie.Need-part-is-tail-start Inv-loop μ-loop
-part-is-tail-start c = omega (arith, dot-bounds _ _ (c .find-dot .ensures) (c .before .loop-test .taken))
+part-is-tail-start c =
+    let s = c .before in
+    omega (arith, part-bounds _ _ _ (s .before .before .token-at .ensures) _ _ _ (s .start .given .1))
 
 part-is-tail-end : tie.Need-part-is-tail-end Inv-loop μ-loop
-part-is-tail-end c = omega (arith, dot-bounds _ _ (c .find-dot .ensures) (c .before .loop-test .taken))
+part-is-tail-end c =
+    let s = c .before in
+    omega (arith, part-bounds _ _ _ (s .before .before .token-at .ensures) _ _ _ (s .start .given .1))
 
 is-tail-requires : tie.Need-is-tail-requires Inv-loop μ-loop
 is-tail-requires c κs = search needs
 
-same-length : tie.Need-same-length Inv-loop μ-loop
-same-length c = c .before .before .before .before .before .loop .inv .1
+same-length-2 : tie.Need-same-length-2 Inv-loop μ-loop
+same-length-2 c =
+    let s = c .before .before .before .before in
+    s .before .before .before .loop .inv .1
 
-returns : tie.Need-returns Inv-loop μ-loop
-returns c =
+returns-2 : tie.Need-returns-2 Inv-loop μ-loop
+returns-2 c =
     let k = c .before in
-    let f = k .before .before in
-    let l = f .before .before .loop in
-    (run-tail _ (l .area) (l .count) (l .node) _ (l .at) (l .inv .0) (f .before .loop-test .taken) _ (f .find-dot .ensures) _ (k .is-tail .ensures) (c .if1 .taken), (l .inv .2, l .inv .3))
+    let s = k .before .before .before in
+    let f = s .before .before in
+    let l = f .before .loop in
+    let cut = part-met _ _ _ (f .token-at .ensures) _ _ _ (s .start .given .1) in
+    (run-tail _ (l .area) (l .count) (l .node) _ (l .inv .0) _ _ cut _ (k .is-tail .ensures) (c .if1 .taken), (l .inv .2, l .inv .3))
 
 sub-token-or-new : tie.Need-sub-token-or-new Inv-loop μ-loop
 sub-token-or-new c =
-    let f = c .before .before .before .before in
-    omega (arith, dot-bounds _ _ (f .find-dot .ensures) (f .before .loop-test .taken))
+    let s = c .before .before .before .before .before in
+    omega (arith, part-bounds _ _ _ (s .before .before .token-at .ensures) _ _ _ (s .start .given .1))
 
 part-token-or-new-start : tie.Need-part-token-or-new-start Inv-loop μ-loop
 part-token-or-new-start c =
-    let f = c .before .before .before .before in
-    omega (arith, dot-bounds _ _ (f .find-dot .ensures) (f .before .loop-test .taken))
+    let s = c .before .before .before .before .before in
+    omega (arith, part-bounds _ _ _ (s .before .before .token-at .ensures) _ _ _ (s .start .given .1))
 
 part-token-or-new-end : tie.Need-part-token-or-new-end Inv-loop μ-loop
 part-token-or-new-end c =
-    let f = c .before .before .before .before in
-    omega (arith, dot-bounds _ _ (f .find-dot .ensures) (f .before .loop-test .taken))
+    let s = c .before .before .before .before .before in
+    omega (arith, part-bounds _ _ _ (s .before .before .token-at .ensures) _ _ _ (s .start .given .1))
 
 token-or-new-requires : tie.Need-token-or-new-requires Inv-loop μ-loop
 token-or-new-requires c κs = search needs
@@ -73,69 +99,65 @@ token-or-new-requires c κs = search needs
 enum-known-id : tie.Need-enum-known-id Inv-loop μ-loop
 enum-known-id c = search needs
 
-enum-told : tie.Need-enum-told Inv-loop μ-loop
-enum-told c = search needs
-
-same-length-2 : tie.Need-same-length-2 Inv-loop μ-loop
-same-length-2 c =
-    let k = c .before .before .before .before in
-    k .token-or-new .kept .0 ∙ k .before .before .before .before .before .before .before .before .loop .inv .1
-
-returns-2 : tie.Need-returns-2 Inv-loop μ-loop
-returns-2 c =
-    let k = c .before .before .before .before in
-    let g = k .before .before .before in
-    let f = g .before .before .before in
-    let l = f .before .before .loop in
-    (run-full _ (l .area) (l .count) (l .node) _ (l .at) (l .inv .0) (f .before .loop-test .taken) _ (f .find-dot .ensures) _ (g .before .is-tail .ensures) (g .if1 .left) _ _ (k .token-or-new .ensures) (c .enum-told .given .1), tt)
-
 enum-told-2 : tie.Need-enum-told-2 Inv-loop μ-loop
 enum-told-2 c = search needs
 
 same-length-3 : tie.Need-same-length-3 Inv-loop μ-loop
 same-length-3 c =
     let k = c .before .before .before .before in
-    k .token-or-new .kept .0 ∙ k .before .before .before .before .before .before .before .before .loop .inv .1
+    let s = k .before .before .before .before .before .before .before in
+    k .token-or-new .kept .0 ∙ s .before .before .before .loop .inv .1
 
 returns-3 : tie.Need-returns-3 Inv-loop μ-loop
 returns-3 c =
     let k = c .before .before .before .before in
     let g = k .before .before .before in
-    let f = g .before .before .before in
-    let l = f .before .before .loop in
-    (run-broken _ (l .area) (l .count) (l .node) _ (l .at) (l .inv .0) (f .before .loop-test .taken) _ (f .find-dot .ensures) _ (g .before .is-tail .ensures) (g .if1 .left) _ _ (k .token-or-new .ensures) (c .enum-told2 .given .1), tt)
+    let s = g .before .before .before .before in
+    let f = s .before .before in
+    let l = f .before .loop in
+    let cut = part-met _ _ _ (f .token-at .ensures) _ _ _ (s .start .given .1) in
+    (run-full _ (l .area) (l .count) (l .node) _ (l .inv .0) _ _ cut _ (g .before .is-tail .ensures) (g .if1 .left) _ _ (k .token-or-new .ensures) (c .enum-told2 .given .1), tt)
 
-add-at : tie.Need-add-at Inv-loop μ-loop
-add-at c =
-    let f = c .before .before .before .before .before .before .before .before .before .before .before in
-    omega (arith, dot-bounds _ _ (f .find-dot .ensures) (f .before .loop-test .taken))
+enum-told-3 : tie.Need-enum-told-3 Inv-loop μ-loop
+enum-told-3 c = search needs
+
+same-length-4 : tie.Need-same-length-4 Inv-loop μ-loop
+same-length-4 c =
+    let k = c .before .before .before .before in
+    let s = k .before .before .before .before .before .before .before in
+    k .token-or-new .kept .0 ∙ s .before .before .before .loop .inv .1
+
+returns-4 : tie.Need-returns-4 Inv-loop μ-loop
+returns-4 c =
+    let k = c .before .before .before .before in
+    let g = k .before .before .before in
+    let s = g .before .before .before .before in
+    let f = s .before .before in
+    let l = f .before .loop in
+    let cut = part-met _ _ _ (f .token-at .ensures) _ _ _ (s .start .given .1) in
+    (run-broken _ (l .area) (l .count) (l .node) _ (l .inv .0) _ _ cut _ (g .before .is-tail .ensures) (g .if1 .left) _ _ (k .token-or-new .ensures) (c .enum-told3 .given .1), tt)
 
 loop-less : tie.Need-loop-less Inv-loop μ-loop
 loop-less c =
-    let f = c .before .before .before .before .before .before .before .before .before .before .before in
-    omega (arith, dot-bounds _ _ (f .find-dot .ensures) (f .before .loop-test .taken))
+    let k = c .before .before .before .before .before in
+    let s = k .before .before .before .before .before .before .before in
+    omega (arith, part-bounds _ _ _ (s .before .before .token-at .ensures) _ _ _ (s .start .given .1))
 
 loop-again : tie.Need-loop-again Inv-loop μ-loop
 loop-again c =
     let k = c .before .before .before .before .before in
     let g = k .before .before .before in
-    let f = g .before .before .before in
-    let l = f .before .before .loop in
+    let s = g .before .before .before .before in
+    let f = s .before .before in
+    let l = f .before .loop in
+    let cut = part-met _ _ _ (f .token-at .ensures) _ _ _ (s .start .given .1) in
     let q = c .before .id .given .1 in
     let fits = rw q at (place-fits (l .area) (l .count) (l .node) _ (k .token-or-new .result) (k .token-or-new .last .0) (k .token-or-new .ensures) (omega arith)) in (
-      run-on _ (l .area) (l .count) (l .node) _ (l .at) (l .inv .0) (f .before .loop-test .taken) _ (f .find-dot .ensures) _ (g .before .is-tail .ensures) (g .if1 .left) _ _ (k .token-or-new .ensures) _ _ q,
+      run-on _ (l .area) (l .count) (l .node) _ (l .inv .0) _ _ cut _ (g .before .is-tail .ensures) (g .if1 .left) _ _ (k .token-or-new .ensures) _ _ q,
       k .token-or-new .kept .0 ∙ l .inv .1,
       fits .0,
       omega arith,
     )
-
-same-length-4 : tie.Need-same-length-4 Inv-loop μ-loop
-same-length-4 c = c .before .loop .inv .1
-
-returns-4 : tie.Need-returns-4 Inv-loop μ-loop
-returns-4 c =
-    let l = c .before .loop in
-    (run-end _ (l .area) (l .count) (l .node) _ (l .at) (l .inv .0) (c .loop-test .left), (l .inv .2, l .inv .3))
 
 pub insert-pattern-spec : {M : Type 1} → statement M
 insert-pattern-spec =
@@ -144,26 +166,27 @@ insert-pattern-spec =
     Inv-loop
     μ-loop
     loop-holds
-    find-dot-requires
+    token-at-requires
+    enum-known-start
+    enum-told
+    same-length
+    returns
     sub-is-tail
     part-is-tail-start
     part-is-tail-end
     is-tail-requires
-    same-length
-    returns
+    same-length-2
+    returns-2
     sub-token-or-new
     part-token-or-new-start
     part-token-or-new-end
     token-or-new-requires
     enum-known-id
-    enum-told
-    same-length-2
-    returns-2
     enum-told-2
     same-length-3
     returns-3
-    add-at
-    loop-less
-    loop-again
+    enum-told-3
     same-length-4
-    returns-4)
+    returns-4
+    loop-less
+    loop-again)
