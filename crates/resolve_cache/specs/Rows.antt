@@ -50,6 +50,13 @@ table generation targets = record {
 abbrev pub damaged : Standing
 damaged = record { snapshot = record { nodes = 0; targets = 0; generation = record { 0 = 0 }; next = record { 0 = 1 } }; words = [] }
 
+-- a table of one node, of generation 0, whose `>` target lies outside: its counts stand, and a walk fails
+abbrev pub broken : Standing
+broken = record {
+  snapshot = record { nodes = 1; targets = 0; generation = record { 0 = 0 }; next = record { 0 = 1 } };
+  words = 0 ∷ 0 ∷ 0 ∷ 0 ∷ 0 ∷ 0 ∷ 0 ∷ 1 ∷ replicate 8 0;
+}
+
 -- the numbers from 1 to n
 abbrev pub upTo : ℕ → List ℕ
 upTo zero = []
@@ -109,14 +116,25 @@ rows =
     -- "A hit stamps the slot and shows the kept targets"; it "leaves the output untouched" and counts no walk; the first slot of equal keys answers
     ∷ asResolve (cache 2 2 0 5 3) (slot (bytes "p") (8 ∷ 9 ∷ []) 4 ∷ slot (bytes "p") (1 ∷ []) 5 ∷ []) (table 0 []) (bytes "p") (7 ∷ 7 ∷ [])
     (kept 0 2) (cache 2 2 0 6 3) (slot (bytes "p") (8 ∷ 9 ∷ []) 6 ∷ slot (bytes "p") (1 ∷ []) 5 ∷ []) (7 ∷ 7 ∷ [])
+    -- a key is all of a subject's bytes; the second slot's targets begin at 16
+    ∷ asResolve (cache 3 3 0 5 3) (slot (bytes "q") (9 ∷ []) 3 ∷ slot (bytes "p") (8 ∷ []) 4 ∷ slot (bytes "pp") [] 5 ∷ []) (table 0 []) (bytes "p") (7 ∷ [])
+    (kept 16 1) (cache 3 3 0 6 3) (slot (bytes "q") (9 ∷ []) 3 ∷ slot (bytes "p") (8 ∷ []) 6 ∷ slot (bytes "pp") [] 5 ∷ []) (7 ∷ [])
     -- "on another generation, empty the cache, adopt it, set tick to 0": what was kept is walked again
     ∷ asResolve (cache 2 1 0 5 3) (slot (bytes "p") (9 ∷ []) 5 ∷ slot (bytes "q") (9 ∷ []) 2 ∷ []) (table 4 (3 ∷ [])) (bytes "p") (7 ∷ [])
     (walked 1) (cache 2 1 4 1 4) (slot (bytes "p") (3 ∷ []) 1 ∷ slot (bytes "q") (9 ∷ []) 2 ∷ []) (3 ∷ [])
+    -- so too on a lower one
+    ∷ asResolve (cache 1 1 4 5 3) (slot (bytes "p") (9 ∷ []) 5 ∷ []) (table 2 (3 ∷ [])) (bytes "p") (7 ∷ [])
+    (walked 1) (cache 1 1 2 1 4) (slot (bytes "p") (3 ∷ []) 1 ∷ []) (3 ∷ [])
     -- "drops the slot of smallest stamp if all are used (lowest slot on a tie)"
     ∷ asResolve (cache 3 3 0 5 3) (slot (bytes "p") [] 5 ∷ slot (bytes "q") [] 4 ∷ slot (bytes "r") [] 4 ∷ []) (table 0 []) (bytes "a") []
     (walked 0) (cache 3 3 0 6 4) (slot (bytes "p") [] 5 ∷ slot (bytes "a") [] 6 ∷ slot (bytes "r") [] 4 ∷ []) []
-    -- the next tick wraps, and so do the walks
+    -- while a slot is unused none is dropped
+    ∷ asResolve (cache 2 1 0 5 3) (slot (bytes "p") [] 1 ∷ slot (bytes "q") [] 9 ∷ []) (table 0 []) (bytes "a") []
+    (walked 0) (cache 2 2 0 6 4) (slot (bytes "p") [] 1 ∷ slot (bytes "a") [] 6 ∷ []) []
+    -- "Next tick is tick plus one, wrapping"; "adds one to walks (modulo 2^64)": on a walk that keeps its list, on one that does not, and on a hit
     ∷ asResolve (cache 1 0 0 (2 ^ 64 - 1) (2 ^ 64 - 1)) (slot [] [] 0 ∷ []) (table 0 []) (bytes "a") [] (walked 0) (cache 1 1 0 0 0) (slot (bytes "a") [] 0 ∷ []) []
+    ∷ asResolve (cache 1 0 0 (2 ^ 64 - 1) (2 ^ 64 - 1)) (slot [] [] 0 ∷ []) (table 0 (upTo 17)) (bytes "a") (replicate 17 7) (walked 17) (cache 1 0 0 0 0) (slot [] [] 0 ∷ []) (upTo 17)
+    ∷ asResolve (cache 1 1 0 (2 ^ 64 - 1) 3) (slot (bytes "a") [] 5 ∷ []) (table 0 []) (bytes "a") [] (kept 0 0) (cache 1 1 0 0 3) (slot (bytes "a") [] 0 ∷ []) []
     -- "1 to 9, then the lowest number that applies": text, 17, 18, 19
     ∷ asRefused (cache 1025 0 0 5 3) (slot [] [] 0 ∷ []) damaged [] (7 ∷ []) (answer 3 [])
     ∷ asRefused (cache 1025 1026 0 5 3) (slot [] [] 0 ∷ []) damaged (bytes "a") (7 ∷ []) (answer 17 [])
@@ -124,6 +142,9 @@ rows =
     ∷ asRefused (cache 1 2 0 5 3) (slot [] [] 0 ∷ []) damaged (bytes "a") (7 ∷ []) (answer 18 [])
     ∷ asRefused (cache 0 0 0 5 3) (slot [] [] 0 ∷ []) damaged (bytes "a") (7 ∷ []) (answer 18 [])
     ∷ asRefused (cache 1 1 0 5 3) (slot (bytes "a") (9 ∷ []) 5 ∷ []) damaged (bytes "a") (7 ∷ []) (answer 19 [])
+    -- 19: "the rest arises only in a walk, so not on a cache hit"; in a walk it comes before 21
+    ∷ asResolve (cache 1 1 0 5 3) (slot (bytes "a") (9 ∷ []) 5 ∷ []) broken (bytes "a") (7 ∷ []) (kept 0 1) (cache 1 1 0 6 3) (slot (bytes "a") (9 ∷ []) 6 ∷ []) (7 ∷ [])
+    ∷ asRefused (cache 1 1 0 5 3) (slot (bytes "p") (9 ∷ []) 5 ∷ []) broken (bytes "a") [] (answer 19 [])
     -- 18: "a used slot has a key over 256 bytes or over 16 targets", looked for on another generation too; slots that are not used are not looked at
     ∷ asRefused (cache 1 1 4 5 3) (slot (long 257) [] 5 ∷ []) (table 0 []) (bytes "a") (7 ∷ []) (answer 18 [])
     ∷ asRefused (cache 1 1 4 5 3) (slot [] (upTo 17) 5 ∷ []) (table 0 []) (bytes "a") (7 ∷ []) (answer 18 [])

@@ -90,3 +90,8 @@ module _ (t : Table) (ls : List (Line ℕ)) (H : HoldsLent t ls) where
       pub store-stamps : lengthOf t ≤ length area → (storeIn s area t) .says ≡ answer 0 ((storeIn s area t) .snapshot .generation .0 ∷ [])
       unfolding storeIn
       store-stamps h = rw (table-fits h)
+
+      -- the snapshot and area that it leaves hold the new table's tree
+      pub store-holds : lengthOf t ≤ length area → HoldsIn ((storeIn s area t) .snapshot) ((storeIn s area t) .area) ls
+      unfolding storeIn
+      store-holds h = rw (table-fits h) copied-holds

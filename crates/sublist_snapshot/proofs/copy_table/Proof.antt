@@ -33,16 +33,22 @@ add-if2 c = let f = fits (c .before .before) in omega arith
 
 returns-2 : tie.Need-returns-2
 returns-2 c =
-    let a = c .before .before .before .before .before .before .before .before .args in
-    (rw (counted (c .before .before .before), lt-ltb (length (a .area .now)) (a .table .nodes * 16 + a .table .targets) (c .if2 .taken)), refl)
+    let k = c .before .before .before in
+    let a = k .before .before .before .before .before .args in
+    (rw (counted k, lt-ltb (length (a .area .now)) (a .table .nodes * 16 + a .table .targets) (c .if2 .taken)), refl)
 
 copy-words-requires : tie.Need-copy-words-requires
-copy-words-requires c κs = let f = fits (c .before .before .before .before) in (omega arith, omega arith)
+copy-words-requires c κs =
+    let k = c .before .before .before .before in
+    let f = fits k in
+    (omega arith, omega arith)
 
 copy-words-requires-2 : tie.Need-copy-words-requires-2
 copy-words-requires-2 c κs =
-    let f = fits (c .before .before .before .before .before .before .before .before) in
-    let k = c .before .before .before .copy-words .kept .0 in
+    let first = c .before .before .before in
+    let k = first .before .before .before .before .before in
+    let f = fits k in
+    let same = first .copy-words .kept .0 in
     (omega arith, omega arith)
 
 same-length : tie.Need-same-length
@@ -50,11 +56,15 @@ same-length c = search needs
 
 returns-3 : tie.Need-returns-3
 returns-3 c =
-    let a = c .before .before .before .before .before .before .before .before .before .before .before .before .before .before .before .before .args in
-    let f = fits (c .before .before .before .before .before .before .before .before .before .before .before) in (
-      rw (counted (c .before .before .before .before .before .before .before .before .before .before .before), le-ltb (length (a .area .now)) (a .table .nodes * 16 + a .table .targets) (c .before .before .before .before .before .before .before .before .if2 .left)),
-      c .before .before .copy-words2 .ensures
-          ∙ ap (λ l. paste l (a .table .nodes * 16) (a .target-words .now) (a .table .targets)) (c .before .before .before .before .before .before .copy-words .ensures)
+    let second = c .before .before in
+    let first = second .before .before .before .before in
+    let room = first .before .before in
+    let k = room .before .before .before in
+    let a = k .before .before .before .before .before .args in
+    let f = fits k in (
+      rw (counted k, le-ltb (length (a .area .now)) (a .table .nodes * 16 + a .table .targets) (room .if2 .left)),
+      second .copy-words2 .ensures
+          ∙ ap (λ l. paste l (a .table .nodes * 16) (a .target-words .now) (a .table .targets)) (first .copy-words .ensures)
           ∙ paste-two (a .area .now) (a .node-words .now) (a .target-words .now) (a .table .nodes * 16) (a .table .targets) (f .nodes) (f .targets),
     )
 

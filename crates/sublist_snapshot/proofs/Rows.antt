@@ -1,0 +1,15 @@
+-- The definitions give each row of ours.
+use mathlib.Core.Path.{refl}
+use Rattle.subject.specs.Utf8.{sequence, firstBad}
+use Rattle.subject.specs.Fnv.{fnv, fnvFrom}
+use Rattle.subject.specs.Grammar.{grammar}
+use Rattle.sublist_tree.specs.Lists.{All}
+use Rattle.sublist_area.specs.Words.{seek, literalChild, starChild}
+use Rattle.sublist_walk.specs.Walk.{collect, push, visit, visits, arrived, onToken, onTokens, exact, listed, ended, walkOver}
+use Rattle.sublist_walk.specs.Matching.{matchTable}
+use Rattle.sublist_snapshot.specs.Snapshot.{make, makeEmpty, storeIn, matchIn}
+use Rattle.sublist_snapshot.specs.Rows.{holds, rows}
+
+pub rows-hold : All holds rows
+unfolding rows sequence firstBad fnv fnvFrom grammar seek literalChild starChild collect push visit visits arrived onToken onTokens exact listed ended walkOver matchTable make makeEmpty storeIn matchIn
+rows-hold = (refl, (refl, (refl, (refl, (refl, (refl, (refl, ((refl, refl), ((refl, refl), ((refl, refl), (refl, ((refl, refl), (refl, (refl, (refl, (refl, (refl, (refl, (refl, (refl, tt))))))))))))))))))))
