@@ -6,11 +6,18 @@ use lib.ListN.{length, drop}
 use Rattle.subject.specs.declared.SubjectError.{SubjectError}
 use Rattle.subject.specs.declared.SubjectError.the-variants.{TooLong, NotUtf8, Empty, TailWildcardNotLast, TooDeep, EmptyToken, WildcardNotAllowed, ControlChar, IllegalChar}
 use Rattle.subject.specs.Answers.{Answer, answer, refusal}
-use Rattle.sublist.specs.Answers.{held}
+use Rattle.sublist_entries.specs.declared.Inserted.{Inserted}
+use Rattle.sublist_entries.specs.Inserting.{InsertOutcome}
+use Rattle.sublist_entries.specs.Answers.{insertAnswer, inserted}
+use Rattle.sublist.specs.declared.Built.{Built}
+use Rattle.sublist.specs.Building.{held}
+use Rattle.sublist.specs.Passes.{filling}
+use Rattle.sublist.specs.Leaving.{BuildOutcome}
+use Rattle.sublist.specs.Answers.{buildAnswer, built}
 use Rattle.sublist_walk.specs.declared.TableMatch.{TableMatch}
 use Rattle.sublist_walk.specs.declared.TableMatch.the-variants.{Listed, Invalid, Damaged, OutShort}
 use Rattle.sublist_walk.specs.Matching.{Outcome, outcome, matchAnswer}
-use Rattle.router_c.specs.Calls.{answerWords, inWords}
+use Rattle.router_c.specs.Calls.{answerWords, inWords, insertWords, buildWords}
 use Rattle.router_c.specs.Bytes.{bytesOf, onBytes}
 
 -- 13 before the first three words of an answer is that answer, held
@@ -22,6 +29,14 @@ held-words n f s t (answer k (v ∷ w ∷ vs)) e = cc
 -- the words of an answer, and an output, are those of an outcome
 pub told-words : (ws out : List ℕ) (a : Answer) (o : Outcome) → ws ≡ answerWords a → outcome a out ≡ o → (ws, out) ≡ inWords o
 told-words ws out a o e f = ap (λ (l : List ℕ). (l, out)) e ∙ ap inWords f
+
+-- so of an insert, with what it leaves
+pub told-insert : (ws list store : List ℕ) (r : Inserted) (o : InsertOutcome (List ℕ)) → ws ≡ answerWords (insertAnswer r) → inserted r list store ≡ o → (ws, list, store) ≡ insertWords o
+told-insert ws list store r o e f = ap (λ (l : List ℕ). (l, list, store)) e ∙ ap insertWords f
+
+-- and of a build
+pub told-build : (ws nodes targets : List ℕ) (r : Built) (o : BuildOutcome) → ws ≡ answerWords (buildAnswer r) → built r nodes targets ≡ o → (ws, filling nodes targets) ≡ buildWords o
+told-build ws nodes targets r o e f = ap (λ (l : List ℕ). (l, filling nodes targets)) e ∙ ap buildWords f
 
 -- a refused subject leaves the bytes
 pub refused-bytes : (e : SubjectError) (ws bs : List ℕ) → onBytes (outcome (refusal e) ws) bs ≡ outcome (refusal e) bs

@@ -4,6 +4,9 @@ use mathlib.Core.Bool.{Bool, true, false}
 use mathlib.Core.List.{List, [], _∷_, _++_}
 use Rattle.subject.specs.Answers.{Answer, answer}
 use Rattle.sublist_entries.specs.declared.ListState.{ListState}
+use Rattle.sublist_entries.specs.Inserting.{InsertOutcome}
+use Rattle.sublist.specs.Passes.{Filling}
+use Rattle.sublist.specs.Leaving.{BuildOutcome}
 use Rattle.sublist_walk.specs.Matching.{Outcome, outcome}
 use Rattle.sublist_snapshot.specs.declared.Snapshot.{Snapshot}
 use Rattle.sublist_snapshot.specs.Snapshot.{Table}
@@ -50,6 +53,14 @@ listOf entries used = record { entries = entries; used = used }
 -- a match: the words of its answer, and the output afterwards
 abbrev pub inWords : Outcome → List ℕ × List ℕ
 inWords (outcome a out) = (answerWords a, out)
+
+-- an insert: the words of its answer, and the list's numbers and the text store afterwards
+abbrev pub insertWords : InsertOutcome (List ℕ) → List ℕ × List ℕ × List ℕ
+insertWords o = (answerWords (o .says), o .list, o .store)
+
+-- a build: the words of its answer, and the words of nodes and of targets afterwards
+abbrev pub buildWords : BuildOutcome → List ℕ × Filling
+buildWords o = (answerWords (o .says), o .areas)
 
 -- a snapshot's state from its numbers
 abbrev pub snapshotOf : CSnapshot → Snapshot

@@ -37,11 +37,9 @@ ghost use Rattle.subject.specs.Fnv.{fnv};
 ghost use Rattle.sublist_entries.specs.Answers.{insertAnswer};
 ghost use Rattle.sublist.specs.Building.{held};
 ghost use Rattle.sublist.specs.Answers.{buildRefusal, buildAnswer};
-ghost use Rattle.sublist_entries.specs.Inserting.{insertSays, storeAfter};
-ghost use Rattle.sublist.specs.Building.{buildSays};
+ghost use Rattle.sublist_entries.specs.Numbers.{entriesIn, insertNumbers};
 ghost use Rattle.sublist.specs.Passes.{filling};
-ghost use Rattle.sublist.specs.Leaving.{buildLeaves};
-ghost use Rattle.sublist_entries.specs.Numbers.{entriesIn, numbersAfter};
+ghost use Rattle.sublist.specs.Leaving.{buildInto};
 ghost use Rattle.sublist_walk.specs.Matching.{outcome, matchAnswer, matchTable};
 ghost use Rattle.sublist_snapshot.specs.Snapshot.{make, makeEmpty, storeIn, matchIn, snapshotNumbers};
 ghost use Rattle.sublist_snapshot.specs.Answers.{madeAnswer, storeAnswer, snapshotAnswer};
@@ -49,7 +47,7 @@ ghost use Rattle.resolve_cache.specs.Cache.{withCapacity, clear, resolve, cache
 ghost use Rattle.resolve_cache.specs.Answers.{cacheAnswer, resolveAnswer, lent};
 ghost use Rattle.binding.specs.Verdict.{singleHome, resolveSingleHome, resolveSingleHomeCached};
 ghost use Rattle.binding.specs.Answers.{homeAnswer, cachedAnswer};
-ghost use Rattle.router_c.specs.Calls.{fill, numbered, answerWords, wordsOf, bit, inWords, listOf, snapshotOf, cacheOf, tableOf, madeWords, storedWords, madeCacheWords, cacheWords, resolvedWords, verdictWords, verdictNumbers, judgedWords};
+ghost use Rattle.router_c.specs.Calls.{fill, numbered, answerWords, wordsOf, bit, inWords, listOf, insertWords, buildWords, snapshotOf, cacheOf, tableOf, madeWords, storedWords, madeCacheWords, cacheWords, resolvedWords, verdictWords, verdictNumbers, judgedWords};
 ghost use Rattle.router_c.specs.Bytes.{word, wordsIn, bytesOf, onBytes, matchBytes, longsIn, bytesOfLongs, inNumbers, inBytes, resolveBytes, Gives};
 
 // An answer: 0 or the number of a refusal, then its values, 0 where there is none.
@@ -316,7 +314,10 @@ pub extern "C" fn router_insert(
     pattern: &[u8],
     target: u32,
 ) -> CAnswer
-    ensures { λ r. ⌜ (wordsOf r ≡ answerWords (insertSays (listOf entries used) (length (now (words .entry)) / 3) (length (now (store .entry))) (now (pattern .entry)))) × (now (words .exit) ≡ numbersAfter (listOf entries used) (now (words .entry)) (now (store .entry)) (now (pattern .entry)) target) × (now (store .exit) ≡ storeAfter (listOf entries used) (entriesIn (now (words .entry))) (now (store .entry)) (now (pattern .entry))) ⌝ }
+    ensures { λ r. ⌜
+        (wordsOf r, now (words .exit), now (store .exit))
+        ≡ insertWords (insertNumbers (listOf entries used)
+        (now (words .entry)) (now (store .entry)) (now (pattern .entry)) target) ⌝ }
 {
     let list = ListState { entries, used };
     of_inserted(sublist_entries::insert_numbers(list, words, store, pattern, target))
@@ -331,7 +332,10 @@ pub extern "C" fn router_build(
     targets: &mut [u32],
     generation: u64,
 ) -> CAnswer
-    ensures { λ r. ⌜ (wordsOf r ≡ answerWords (buildSays (entriesIn (now (words .entry))) (now (store .entry)) (length (now (nodes .entry)) / 16) (length (now (targets .entry))) generation)) × (filling (now (nodes .exit)) (now (targets .exit)) ≡ buildLeaves (entriesIn (now (words .entry))) (now (store .entry)) (now (nodes .entry)) (now (targets .entry))) ⌝ }
+    ensures { λ r. ⌜
+        (wordsOf r, filling (now (nodes .exit)) (now (targets .exit)))
+        ≡ buildWords (buildInto (entriesIn (now (words .entry))) (now (store .entry))
+        (now (nodes .entry)) (now (targets .entry)) generation) ⌝ }
 {
     of_built(sublist::build_from_numbers(words, store, nodes, targets, generation))
 }

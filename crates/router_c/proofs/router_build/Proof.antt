@@ -1,7 +1,6 @@
 -- `router_c::router_build` meets its contract: the words of what `sublist::build_from_numbers` answers, and what it leaves.
-use mathlib.Core.Path.{ap, _∙_}
 use borrow.Author.Needs.{needs}
-use Rattle.router_c.specs.Calls.{answerWords}
+use Rattle.router_c.proofs.Answering.{told-build}
 use Rattle.router_c.proofs.router_build.Statement.{statement}
 use Rattle.router_c.proofs.router_build.Tie as tie
 
@@ -18,7 +17,9 @@ same-length-2 : tie.Need-same-length-2
 same-length-2 c = search needs
 
 returns : tie.Need-returns
-returns c = (c .of-built .ensures ∙ ap answerWords (c .before .before .before .before .before .build-from-numbers .ensures .0), c .before .before .before .before .before .build-from-numbers .ensures .1)
+returns c =
+    let k = c .before .before .before .before .before in
+    told-build _ _ _ (k .build-from-numbers .result) _ (c .of-built .ensures) (k .build-from-numbers .ensures)
 
 pub router-build-spec : {M : Type 1} → statement M
 router-build-spec =

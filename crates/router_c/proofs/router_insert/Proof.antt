@@ -1,7 +1,6 @@
--- `router_c::router_insert` meets its contract: the words of what `sublist::insert_numbers` answers, and what it leaves.
-use mathlib.Core.Path.{ap, _∙_}
+-- `router_c::router_insert` meets its contract: the words of what `sublist_entries::insert_numbers` answers, and what it leaves.
 use borrow.Author.Needs.{needs}
-use Rattle.router_c.specs.Calls.{answerWords}
+use Rattle.router_c.proofs.Answering.{told-insert}
 use Rattle.router_c.proofs.router_insert.Statement.{statement}
 use Rattle.router_c.proofs.router_insert.Tie as tie
 
@@ -18,7 +17,9 @@ same-length-2 : tie.Need-same-length-2
 same-length-2 c = search needs
 
 returns : tie.Need-returns
-returns c = (c .of-inserted .ensures ∙ ap answerWords (c .before .before .before .before .before .insert-numbers .ensures .0), c .before .before .before .before .before .insert-numbers .ensures .1, c .before .before .before .before .before .insert-numbers .ensures .2)
+returns c =
+    let k = c .before .before .before .before .before in
+    told-insert _ _ _ (k .insert-numbers .result) _ (c .of-inserted .ensures) (k .insert-numbers .ensures)
 
 pub router-insert-spec : {M : Type 1} → statement M
 router-insert-spec =
