@@ -3,7 +3,7 @@ use mathlib.Core.Path.{_∙_}
 use borrow.Author.Needs.{needs}
 use Rattle.sublist_entries.specs.Numbers.{unflat}
 use Rattle.sublist.specs.Core.{endsOf, targetsOf}
-use Rattle.sublist.proofs.Stages.{short-targets, over-limit, within-limit}
+use Rattle.sublist.proofs.Stages.{over, within, short-targets, over-limit, within-limit}
 use Rattle.sublist.proofs.finish.Statement.{statement}
 use Rattle.sublist.proofs.finish.Tie as tie
 
@@ -23,7 +23,7 @@ returns-2 c =
     let k = c .before .before .before in
     let g = k .before .before .before .before .before .before .before .args in
     over-limit (g .count) 0 (g .generation) (g .total) (g .area .now) (targetsOf (unflat (g .count) (g .words .now))) (g .targets .now) (endsOf (g .count) (g .ends .now))
-    (k .before .before .if1 .left) (k .settle .last .0) (k .settle .ensures .0) _ (k .settle .ensures .1) (c .if2 .taken)
+    (k .before .before .if1 .left) (k .settle .last .0) (k .settle .ensures .0) _ (k .settle .ensures .1) (over _ (c .if2 .taken))
 
 lay-requires : tie.Need-lay-requires
 lay-requires c κs = search needs
@@ -49,18 +49,9 @@ returns-3 c =
     let k = e .before .before .before in
     let g = k .before .before .before .before .before .before .before .args in
     within-limit (g .count) 0 (g .generation) (g .total) (g .area .now) (targetsOf (unflat (g .count) (g .words .now))) (g .targets .now) (endsOf (g .count) (g .ends .now))
-    (k .before .before .if1 .left) (k .settle .last .0) (k .settle .ensures .0) _ (k .settle .ensures .1) (e .if2 .left) _ (rw (← y .lay .ensures) (t .put-targets .ensures))
+    (k .before .before .if1 .left) (k .settle .last .0) (k .settle .ensures .0) _ (k .settle .ensures .1) (within _ (e .if2 .left)) _ (rw (← y .lay .ensures) (t .put-targets .ensures))
 
 pub finish-spec : {M : Type 1} → statement M
 finish-spec =
     tie.close
-    (tie.spec
-    returns
-    settle-requires
-    same-length
-    returns-2
-    lay-requires
-    put-targets-requires
-    same-length-2
-    same-length-3
-    returns-3)
+    (tie.spec returns settle-requires same-length returns-2 lay-requires put-targets-requires same-length-2 same-length-3 returns-3)
