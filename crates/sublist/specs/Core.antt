@@ -6,10 +6,8 @@ use mathlib.Core.Option.{Option, none, some}
 use lib.Dec.{eqb, ltb}
 use lib.ListN.{length, getD}
 use Rattle.subject.specs.Choice.{pick}
-use Rattle.subject.specs.Text.{isStar}
 use Rattle.subject.specs.Answers.{Answer, answer, unless}
-use Rattle.subject.specs.Fnv.{fnv}
-use Rattle.sublist_tree.specs.Tree.{Key, star, lit, Line, line}
+use Rattle.sublist_tree.specs.Tree.{Line, line}
 use Rattle.sublist_area.specs.declared.Placed.{Placed}
 use Rattle.sublist_area.specs.declared.Placed.the-variants.{At, Full, Broken}
 use Rattle.sublist_area.specs.Words.{word}
@@ -35,10 +33,6 @@ checked (Bad e) = some (buildRefusal e)
 -- an entry by its text's place alone
 abbrev pub placeOf : ℕ → ℕ → Entry
 placeOf start size = record { start = start; length = size; target = 0 }
-
--- the key of a token that is no `>`
-abbrev pub tokenKey : List ℕ → Key ℕ
-tokenKey t = pick (isStar t) star (lit (fnv t))
 
 -- where a run of keys came, as the end of a line
 abbrev pub reached : Placed → List ℕ → Bool → Growth
