@@ -12,7 +12,9 @@ use Rattle.subject.specs.Fnv.{fnv}
 use Rattle.subject.proofs.Positions.{tokens-start}
 use Rattle.sublist_tree.specs.Tree.{Key, star, lit, Line, line, onto, lineOf, keyIs}
 use Rattle.sublist_tree.proofs.Bytes.{same-sound}
-use Rattle.sublist.specs.Sharing.{keysOf, shared, keysIn, keyOf, sameKey, sharedBy}
+use Rattle.sublist_trie.specs.Trie.{keysOf}
+use Rattle.sublist_area.specs.Words.{tokenKey}
+use Rattle.sublist.specs.Sharing.{shared, keysIn, sameKey, sharedBy}
 
 -- the tests of two tokens, in order
 module _ (s t : List ℕ) where
@@ -56,8 +58,8 @@ shared-next : (t u : List ℕ) (ts us : List (List ℕ)) → shared eqb (keysIn 
 unfolding sameKey
 shared-next t u ts us = go (isTail t) (isTail u) (lineOf fnv ts 0) (lineOf fnv us 0)
   where
-    go : (b c : Bool) (l m : Line ℕ) → shared eqb (keysOf (pick b (line [] true 0) (onto (keyOf t) l))) (keysOf (pick c (line [] true 0) (onto (keyOf u) m)))
-        ≡ pick (and (not (or b c)) (keyIs eqb (keyOf u) (keyOf t))) (suc (shared eqb (keysOf l) (keysOf m))) 0
+    go : (b c : Bool) (l m : Line ℕ) → shared eqb (keysOf (pick b (line [] true 0) (onto (tokenKey t) l))) (keysOf (pick c (line [] true 0) (onto (tokenKey u) m)))
+        ≡ pick (and (not (or b c)) (keyIs eqb (tokenKey u) (tokenKey t))) (suc (shared eqb (keysOf l) (keysOf m))) 0
     go true c l m = refl
     go false true (line ks x y) m = refl
     go false false (line ks x y) (line js v w) = refl

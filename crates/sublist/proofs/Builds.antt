@@ -23,12 +23,13 @@ use Rattle.sublist_area.proofs.Stores.{planted-behind, length-planted}
 use Rattle.sublist_walk.specs.Holds.{Holds}
 use Rattle.sublist_entries.specs.declared.Entry.{Entry}
 use Rattle.sublist_entries.specs.Entries.{textOf, targetWord, readFrom, linesOf}
-use Rattle.sublist.specs.Building.{invalid, badEntry, badEntries, needed, worstOf, buildSays}
-use Rattle.sublist.specs.Passes.{End, end, Growth, growth, stopped, linesIn, counted, countWord, startWord, nodeWorst, told, settled, laidAt, laid, Filling, filling, filledBy, filled}
+use Rattle.sublist.specs.Building.{invalid, badEntry, badEntries, needed, worstOf, overLimit, buildSays}
+use Rattle.sublist.specs.Passes.{End, end, Growth, growth, stopped, linesIn, counted, countWord, startWord, nodeWorst, told, settled, laidAt, laid, Filling, filling, filledBy, filled, lastPasses}
 use Rattle.sublist.specs.Leaving.{finished, started, buildLeaves}
 use Rattle.sublist.proofs.Filling.{nodeOf}
 use Rattle.sublist.specs.Passes.{nodeWordsIn, targetWordsIn}
 use Rattle.sublist.proofs.Entering.{toEnd}
+use Rattle.sublist.proofs.Stages.{within, not-over}
 use Rattle.sublist.proofs.Standing.{targetEnd, stands, targets-kept}
 use Rattle.sublist.proofs.Composed.{long, no-room, all-accepted, needs, ends-length, end-targets, entered}
 
@@ -67,10 +68,10 @@ pub taken : (es : List Entry) (store : List ℕ) (room places generation : ℕ) 
     → Taken es store room places × (vs ≡ needed store es ∷ worstOf store es ∷ generation ∷ [])
 unfolding buildSays
 taken es store room places generation vs e =
-    go (ltb 2048 (length es)) refl (badEntries store 0 es) refl (ltb room (needed store es)) refl (ltb places (length es)) refl (ltb 1024 (worstOf store es)) refl e
+    go (ltb 2048 (length es)) refl (badEntries store 0 es) refl (ltb room (needed store es)) refl (ltb places (length es)) refl (overLimit (worstOf store es)) refl e
   where
     go : (b : Bool) → ltb 2048 (length es) ≡ b → (o : Option Answer) → badEntries store 0 es ≡ o → (c : Bool) → ltb room (needed store es) ≡ c
-        → (d : Bool) → ltb places (length es) ≡ d → (f : Bool) → ltb 1024 (worstOf store es) ≡ f
+        → (d : Bool) → ltb places (length es) ≡ d → (f : Bool) → overLimit (worstOf store es) ≡ f
         → pick b (answer 10 []) (unless o (pick c (answer 14 (needed store es ∷ [])) (pick d (answer 15 []) (pick f (answer 16 (worstOf store es ∷ 1024 ∷ []))
         (answer 0 (needed store es ∷ worstOf store es ∷ generation ∷ [])))))) ≡ answer 0 vs
         → Taken es store room places × (vs ≡ needed store es ∷ worstOf store es ∷ generation ∷ [])
@@ -81,7 +82,7 @@ taken es store room places generation vs e =
     go false p none q false r true s f t e = let z : _≡_ {A = ℕ} 0 1 = cc in absurd (omega arith)
     go false p none q false r false s true t e = let z : _≡_ {A = ℕ} 0 1 = cc in absurd (omega arith)
     go false p none q false r false s false t e = (
-      record { few = ltb-false 2048 (length es) p; sound = q; fits = ltb-false room (needed store es) r; wide = ltb-false places (length es) s; fork = ltb-false 1024 (worstOf store es) t },
+      record { few = ltb-false 2048 (length es) p; sound = q; fits = ltb-false room (needed store es) r; wide = ltb-false places (length es) s; fork = not-over (worstOf store es) t },
       cc,
     )
 
@@ -137,7 +138,7 @@ module _ (es : List Entry) (store a ts : List ℕ) (t : Taken es store (length a
   abbrev b : List ℕ
   b = entered es store (t .few) (t .sound) a (t .fits) .0
 
-  pub leaves-are : buildLeaves es store a ts ≡ filled (filling (laid (settled b (size T - 1)) 0 (size T) 0) ts) E (map targetWord es)
+  pub leaves-are : buildLeaves es store a ts ≡ lastPasses (size T) b ts E (map targetWord es)
   unfolding buildLeaves
   leaves-are =
       let m = entered es store (t .few) (t .sound) a (t .fits) in
@@ -147,7 +148,7 @@ module _ (es : List Entry) (store a ts : List ℕ) (t : Taken es store (length a
         le-ltb (length a) 16 (long es store (t .few) (t .sound) a (t .fits)),
         m .1,
         le-ltb (length ts) (length es) (t .wide),
-        le-ltb 1024 (worstOf store es) (t .fork),
+        within (worstOf store es) (t .fork),
       ) refl
 
   -- the areas hold the tree of the entries
@@ -157,12 +158,12 @@ module _ (es : List Entry) (store a ts : List ℕ) (t : Taken es store (length a
       let long-ends = ends-length es store (t .few) (t .sound) in
       let h = stands (linesOf store es) b (m .2) ts (omega (arith, long-ends, t .wide)) (omega (arith, long-ends, t .few)) in
       subst (λ f. Holds (nodeWordsIn f) (needed store es) (length es) (targetWordsIn f) (linesOf store es)) (sym leaves-are)
-      (subst (λ xs. Holds (nodeWordsIn (filled (filling (laid (settled b (size T - 1)) 0 (size T) 0) ts) E xs)) (needed store es) (length es)
-      (targetWordsIn (filled (filling (laid (settled b (size T - 1)) 0 (size T) 0) ts) E xs)) (linesOf store es)) (end-targets es store (t .few) (t .sound))
-      (subst (λ n. Holds (nodeWordsIn (filled (filling (laid (settled b (size T - 1)) 0 (size T) 0) ts) E (map targetEnd (endsOf eqb (linesOf store es))))) n (length es)
-      (targetWordsIn (filled (filling (laid (settled b (size T - 1)) 0 (size T) 0) ts) E (map targetEnd (endsOf eqb (linesOf store es))))) (linesOf store es)) (needs es store (t .few) (t .sound))
-      (subst (λ k. Holds (nodeWordsIn (filled (filling (laid (settled b (size T - 1)) 0 (size T) 0) ts) E (map targetEnd (endsOf eqb (linesOf store es))))) (size T) k
-      (targetWordsIn (filled (filling (laid (settled b (size T - 1)) 0 (size T) 0) ts) E (map targetEnd (endsOf eqb (linesOf store es))))) (linesOf store es)) long-ends h)))
+      (subst (λ xs. Holds (nodeWordsIn (lastPasses (size T) b ts E xs)) (needed store es) (length es)
+      (targetWordsIn (lastPasses (size T) b ts E xs)) (linesOf store es)) (end-targets es store (t .few) (t .sound))
+      (subst (λ n. Holds (nodeWordsIn (lastPasses (size T) b ts E (map targetEnd (endsOf eqb (linesOf store es))))) n (length es)
+      (targetWordsIn (lastPasses (size T) b ts E (map targetEnd (endsOf eqb (linesOf store es))))) (linesOf store es)) (needs es store (t .few) (t .sound))
+      (subst (λ k. Holds (nodeWordsIn (lastPasses (size T) b ts E (map targetEnd (endsOf eqb (linesOf store es))))) (size T) k
+      (targetWordsIn (lastPasses (size T) b ts E (map targetEnd (endsOf eqb (linesOf store es))))) (linesOf store es)) long-ends h)))
 
   pub build-accepted : All Accepted (readFrom store es)
   build-accepted = all-accepted es store (t .few) (t .sound)
@@ -186,18 +187,18 @@ module _ (es : List Entry) (store a ts : List ℕ) (t : Taken es store (length a
       let m = entered es store (t .few) (t .sound) a (t .fits) in
       let long-ends = ends-length es store (t .few) (t .sound) in
       ap (λ f. getD (targetWordsIn f) p 0) leaves-are
-      ∙ ap (λ xs. getD (targetWordsIn (filled (filling (laid (settled b (size T - 1)) 0 (size T) 0) ts) E xs)) p 0) (sym (end-targets es store (t .few) (t .sound)))
+      ∙ ap (λ xs. getD (targetWordsIn (lastPasses (size T) b ts E xs)) p 0) (sym (end-targets es store (t .few) (t .sound)))
       ∙ targets-kept (linesOf store es) b (m .2) ts (omega (arith, long-ends, t .wide)) (omega (arith, long-ends, t .few)) p (omega (arith, long-ends))
 
 -- the last passes write targets only where neither 15 nor 16 applies and the first pass came through
 finished-keeps : (es : List Entry) (store ts : List ℕ) (g : Growth)
-    → (ltb (length ts) (length es) ≡ false → ltb 1024 (worstOf store es) ≡ false → (n : ℕ) (a : List ℕ) (ends : List End) → g ≡ growth n a ends → ⊥)
+    → (ltb (length ts) (length es) ≡ false → overLimit (worstOf store es) ≡ false → (n : ℕ) (a : List ℕ) (ends : List End) → g ≡ growth n a ends → ⊥)
     → targetWordsIn (finished es store ts g) ≡ ts
 finished-keeps es store ts (stopped a) never = refl
-finished-keeps es store ts (growth n a ends) never = go (ltb (length ts) (length es)) refl (ltb 1024 (worstOf store es)) refl
+finished-keeps es store ts (growth n a ends) never = go (ltb (length ts) (length es)) refl (overLimit (worstOf store es)) refl
   where
-    go : (b : Bool) → ltb (length ts) (length es) ≡ b → (c : Bool) → ltb 1024 (worstOf store es) ≡ c
-        → targetWordsIn (pick b (filling a ts) (pick c (filling (settled a (n - 1)) ts) (filled (filling (laid (settled a (n - 1)) 0 n 0) ts) ends (map targetWord es)))) ≡ ts
+    go : (b : Bool) → ltb (length ts) (length es) ≡ b → (c : Bool) → overLimit (worstOf store es) ≡ c
+        → targetWordsIn (pick b (filling a ts) (pick c (filling (settled a (n - 1)) ts) (lastPasses n a ts ends (map targetWord es)))) ≡ ts
     go true e c f = refl
     go false e true f = refl
     go false e false f = absurd (never e f n a ends refl)
@@ -210,7 +211,7 @@ refused-targets es store a ts generation k vs refused = go (ltb 2048 (length es)
   where
     go : (b : Bool) → ltb 2048 (length es) ≡ b → (o : Option Answer) → badEntries store 0 es ≡ o → (c : Bool) → ltb (length a) 16 ≡ c
         → pick b (answer 10 []) (unless o (pick (ltb (length a / 16) (needed store es)) (answer 14 (needed store es ∷ [])) (pick (ltb (length ts) (length es)) (answer 15 [])
-        (pick (ltb 1024 (worstOf store es)) (answer 16 (worstOf store es ∷ 1024 ∷ [])) (answer 0 (needed store es ∷ worstOf store es ∷ generation ∷ [])))))) ≡ answer (suc k) vs
+        (pick (overLimit (worstOf store es)) (answer 16 (worstOf store es ∷ 1024 ∷ [])) (answer 0 (needed store es ∷ worstOf store es ∷ generation ∷ [])))))) ≡ answer (suc k) vs
         → targetWordsIn (pick b (filling a ts) (started es store a ts o)) ≡ ts
     go true p o q c r e = refl
     go false p (some x) q c r e = refl
@@ -218,7 +219,7 @@ refused-targets es store a ts generation k vs refused = go (ltb 2048 (length es)
     go false p none q false r e =
         rw r (finished-keeps es store ts (linesIn (growth 1 (planted a) []) (linesOf store es)) (λ s t n b ends g. never s t n b ends g (ltb (length a / 16) (needed store es)) refl))
       where
-        never : ltb (length ts) (length es) ≡ false → ltb 1024 (worstOf store es) ≡ false → (n : ℕ) (b : List ℕ) (ends : List End) → linesIn (growth 1 (planted a) []) (linesOf store es) ≡ growth n b ends
+        never : ltb (length ts) (length es) ≡ false → overLimit (worstOf store es) ≡ false → (n : ℕ) (b : List ℕ) (ends : List End) → linesIn (growth 1 (planted a) []) (linesOf store es) ≡ growth n b ends
             → (c : Bool) → ltb (length a / 16) (needed store es) ≡ c → ⊥
         never s t n b ends g true u =
             let m = no-room es store (ltb-false 2048 (length es) p) q a (ltb-true (length a / 16) (needed store es) u) in

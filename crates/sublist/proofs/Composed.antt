@@ -31,8 +31,8 @@ use Rattle.sublist_area.proofs.Stores.{length-planted}
 use Rattle.sublist_area.proofs.Grown.{Fits}
 use Rattle.sublist_entries.specs.declared.Entry.{Entry}
 use Rattle.sublist_entries.specs.Entries.{textOf, targetWord, readFrom, linesOf}
-use Rattle.sublist.specs.Building.{badEntries, needed, worstOf, buildSays}
-use Rattle.sublist.specs.Passes.{End, Growth, growth, stopped, nodeWorst, linesIn, settled, laid, Filling, filling, filled}
+use Rattle.sublist.specs.Building.{badEntries, needed, worstOf, overLimit, buildSays}
+use Rattle.sublist.specs.Passes.{End, Growth, growth, stopped, nodeWorst, linesIn, settled, Filling, filling, lastPasses}
 use Rattle.sublist.specs.Leaving.{finished, started, buildLeaves, buildInto}
 use Rattle.sublist.specs.Core.{rootWorst, targetsOf, allIn, answerBy, leftBy, ifBad, builtBy, leavesBy, coreInto}
 use Rattle.sublist.proofs.AcceptedEntries.{Sound, sound-entries}
@@ -158,21 +158,21 @@ module _ (es : List Entry) (store : List ℕ) (few : length es ≤ 2048) (sound 
   says-sound : (a : List ℕ) (places generation : ℕ) → answerBy (length es) (needed store es) places generation (allIn es store a)
       ≡ pick (ltb (length a / 16) (needed store es)) (answer 14 (needed store es ∷ []))
       (pick (ltb places (length es)) (answer 15 [])
-      (pick (ltb 1024 (worstOf store es)) (answer 16 (worstOf store es ∷ 1024 ∷ []))
+      (pick (overLimit (worstOf store es)) (answer 16 (worstOf store es ∷ 1024 ∷ []))
       (answer 0 (needed store es ∷ worstOf store es ∷ generation ∷ []))))
   says-sound a places generation = go (ltb (length a / 16) (needed store es)) refl
     where
       go : (c : Bool) → ltb (length a / 16) (needed store es) ≡ c → answerBy (length es) (needed store es) places generation (allIn es store a)
           ≡ pick c (answer 14 (needed store es ∷ []))
           (pick (ltb places (length es)) (answer 15 [])
-          (pick (ltb 1024 (worstOf store es)) (answer 16 (worstOf store es ∷ 1024 ∷ []))
+          (pick (overLimit (worstOf store es)) (answer 16 (worstOf store es ∷ 1024 ∷ []))
           (answer 0 (needed store es ∷ worstOf store es ∷ generation ∷ []))))
       go true e = ap (answerBy (length es) (needed store es) places generation) (no-room a (ltb-true (length a / 16) (needed store es) e) .1)
       go false e =
           let room = ltb-false (length a / 16) (needed store es) e in
           ap (answerBy (length es) (needed store es) places generation) (all-in a room)
           ∙ (λ i. pick (ltb places (length es)) (answer 15 [])
-          (pick (ltb 1024 (root-worst a room i)) (answer 16 (root-worst a room i ∷ 1024 ∷ []))
+          (pick (overLimit (root-worst a room i)) (answer 16 (root-worst a room i ∷ 1024 ∷ []))
           (answer 0 (needs i ∷ root-worst a room i ∷ generation ∷ []))))
 
   -- what is left
@@ -191,7 +191,7 @@ module _ (es : List Entry) (store : List ℕ) (few : length es ≤ 2048) (sound 
           go′ (inl w) =
               let m = w .1 in
               ap (leftBy (length es) (targetsOf es) ts) (m .1)
-              ∙ ap (λ v. pick (ltb (length ts) (length es)) (filling (m .0) ts) (pick (ltb 1024 v) (filling (settled (m .0) (size T - 1)) ts) (filled (filling (laid (settled (m .0) (size T - 1)) 0 (size T) 0) ts) E (map targetWord es)))) (second-pass (m .0) (m .2))
+              ∙ ap (λ v. pick (ltb (length ts) (length es)) (filling (m .0) ts) (pick (overLimit v) (filling (settled (m .0) (size T - 1)) ts) (lastPasses (size T) (m .0) ts E (map targetWord es)))) (second-pass (m .0) (m .2))
               ∙ sym (ap (finished es store ts) (m .1))
           go′ (inr w) = ap (leftBy (length es) (targetsOf es) ts) (w .1 .1) ∙ sym (ap (finished es store ts) (w .1 .1))
 
@@ -205,7 +205,7 @@ core-says es store a places generation = go (ltb 2048 (length es)) refl (badEntr
         ≡ pick b (answer 10 []) (unless o
         (pick (ltb (length a / 16) (needed store es)) (answer 14 (needed store es ∷ []))
         (pick (ltb places (length es)) (answer 15 [])
-        (pick (ltb 1024 (worstOf store es)) (answer 16 (worstOf store es ∷ 1024 ∷ []))
+        (pick (overLimit (worstOf store es)) (answer 16 (worstOf store es ∷ 1024 ∷ []))
         (answer 0 (needed store es ∷ worstOf store es ∷ generation ∷ []))))))
     go true e o q = refl
     go false e (some r) q = refl

@@ -10,6 +10,7 @@ pub mod Entering
 pub mod Filled
 pub mod Filling
 pub mod Laying
+pub mod Limits
 pub mod Lines
 pub mod Listed
 pub mod Local

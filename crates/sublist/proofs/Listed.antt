@@ -14,7 +14,8 @@ use Rattle.subject.specs.Fnv.{fnv}
 use Rattle.sublist_tree.specs.Tree.{star, lit}
 use Rattle.sublist.specs.Passes.{end}
 use Rattle.sublist_entries.specs.Numbers.{unflat}
-use Rattle.sublist.specs.Core.{tokenKey, endOf, endsOf}
+use Rattle.sublist_area.specs.Words.{tokenKey}
+use Rattle.sublist.specs.Core.{endOf, endsOf}
 
 -- entry i
 abbrev pub entryAt : List ℕ → ℕ → Entry

@@ -14,7 +14,8 @@ use Rattle.sublist_tree.specs.Nodes.{runs, nodes}
 use Rattle.sublist_tree.proofs.Order.{and-false, filter-filter}
 use Rattle.sublist_tree.proofs.Bytes.{All-map}
 use Rattle.sublist_tree.proofs.Counting.{filter-append, filter-all, filter-map, distinct-map}
-use Rattle.sublist.specs.Sharing.{keysOf, shared}
+use Rattle.sublist_trie.specs.Trie.{keysOf}
+use Rattle.sublist.specs.Sharing.{shared}
 
 neither : (a b : Bool) → and (not b) (not a) ≡ not (or a b)
 neither true true = refl

@@ -19,7 +19,9 @@ use Rattle.sublist_tree.proofs.Bytes.{eqb-whole}
 use Rattle.sublist_entries.specs.declared.Entry.{Entry}
 use Rattle.sublist_entries.specs.Entries.{textOf, linesOf, targetWord}
 use Rattle.sublist.specs.Building.{badEntries, needed}
-use Rattle.sublist.specs.Sharing.{keysOf, shared, keysIn, keyOf, sharedBy, longest}
+use Rattle.sublist_trie.specs.Trie.{keysOf}
+use Rattle.sublist_area.specs.Words.{tokenKey}
+use Rattle.sublist.specs.Sharing.{EntryWithin, shared, keysIn, sharedBy, longest}
 use Rattle.sublist_entries.specs.Numbers.{unflat}
 use Rattle.sublist.proofs.AcceptedEntries.{Sound, sound-entries}
 use Rattle.sublist_entries.proofs.Unflat.{entryAt, unflat-more, unflat-at}
@@ -45,9 +47,9 @@ keys-only : (ts : List (List ℕ)) (x : ℕ) → keysOf (lineOf fnv ts x) ≡ ke
 keys-only [] x = refl
 keys-only (t ∷ ts) x = go (isTail t) (lineOf fnv ts x) (lineOf fnv ts 0) (keys-only ts x)
   where
-    go : (b : Bool) (l m : Line ℕ) → keysOf l ≡ keysOf m → keysOf (pick b (line [] true x) (onto (keyOf t) l)) ≡ keysOf (pick b (line [] true 0) (onto (keyOf t) m))
+    go : (b : Bool) (l m : Line ℕ) → keysOf l ≡ keysOf m → keysOf (pick b (line [] true x) (onto (tokenKey t) l)) ≡ keysOf (pick b (line [] true 0) (onto (tokenKey t) m))
     go true l m e = refl
-    go false (line ks v y) (line js w z) e = ap (λ r. keyOf t ∷ r) e
+    go false (line ks v y) (line js w z) e = ap (λ r. tokenKey t ∷ r) e
 
 module _ (store text : List ℕ) where
   longest-lines : (es : List Entry) → longestRun eqb (keysIn (tokens text)) (linesOf store es) ≡ longest store text es
@@ -67,7 +69,7 @@ keys-most : (ts : List (List ℕ)) → length (keysIn ts) ≤ length ts
 keys-most [] = omega arith
 keys-most (t ∷ ts) = go (isTail t) (lineOf fnv ts 0) (keys-most ts)
   where
-    go : (b : Bool) (l : Line ℕ) → length (keysOf l) ≤ length ts → length (keysOf (pick b (line [] true 0) (onto (keyOf t) l))) ≤ suc (length ts)
+    go : (b : Bool) (l : Line ℕ) → length (keysOf l) ≤ length ts → length (keysOf (pick b (line [] true 0) (onto (tokenKey t) l))) ≤ suc (length ts)
     go true l h = omega arith
     go false (line ks v y) h = omega arith
 
@@ -119,7 +121,7 @@ module _ (store words : List ℕ) (n : ℕ) (h : 3 * n ≤ length words) (sound 
   entry-sound : Sound store (entryAt words i)
   entry-sound = unflat-at (Sound store) n words h (sound-entries store 0 (unflat n words) sound) i l
 
-  pub entry-within : getD words (3 * i) 0 + getD words (3 * i + 1) 0 ≤ length store
+  pub entry-within : EntryWithin store words i
   entry-within = entry-sound .0
 
   pub entry-keys : sharedBy (textAt store words i) (textAt store words i) ≤ 32

@@ -10,7 +10,8 @@ use Rattle.sublist_area.specs.declared.Placed.{Placed}
 use Rattle.sublist_area.specs.declared.Placed.the-variants.{At, Full, Broken}
 use Rattle.sublist_area.specs.Growing.{childOrNew, onward, grown}
 use Rattle.sublist.specs.Passes.{end, Growth, growth, stopped}
-use Rattle.sublist.specs.Core.{tokenKey, runIn}
+use Rattle.sublist_area.specs.Words.{tokenKey}
+use Rattle.sublist.specs.Core.{runIn}
 
 full-stays : (a : List ℕ) (ks : List (Key ℕ)) → grown (Full, a) ks ≡ (Full, a)
 unfolding grown onward

@@ -18,7 +18,7 @@ use Rattle.sublist.specs.declared.EntryCheck.{EntryCheck}
 use Rattle.sublist.specs.declared.EntryCheck.the-variants.{Sound, Bad}
 use Rattle.sublist.specs.Answers.{buildRefusal}
 use Rattle.sublist_entries.specs.Entries.{linesOf}
-use Rattle.sublist.specs.Building.{badEntries, needed}
+use Rattle.sublist.specs.Building.{badEntries, needed, overLimit}
 use Rattle.sublist.specs.Passes.{End, Growth, growth, stopped, linesIn, settled, laid, Filling, filling, filled}
 use Rattle.sublist.specs.Leaving.{BuildOutcome}
 use Rattle.sublist.specs.Core.{checked, allIn, rootWorst, targetsOf, finishBy, builtBy, leavesBy, coreInto}
@@ -56,6 +56,16 @@ module _ (es : List Entry) (store a : List ℕ) where
   pub grow-short : length a < 16 → stopped a ≡ allIn es store a
   grow-short h = rw (lt-ltb (length a) 16 h)
 
+-- 16 by the worst case
+pub over : (w : ℕ) → 1024 < w → overLimit w ≡ true
+over w l = lt-ltb 1024 w l
+
+pub within : (w : ℕ) → w ≤ 1024 → overLimit w ≡ false
+within w l = le-ltb 1024 w l
+
+pub not-over : (w : ℕ) → overLimit w ≡ false → w ≤ 1024
+not-over w e = ltb-false 1024 w e
+
 -- behind the first pass
 module _ (count need generation n : ℕ) (a xs ts : List ℕ) (ends : List End) where
   abbrev Finishes : Answer → Filling → Type 0
@@ -68,11 +78,11 @@ module _ (count need generation n : ℕ) (a xs ts : List ℕ) (ends : List End) 
     worst-is : rootWorst (settled a (n - 1)) ≡ w
     worst-is = rw (v, s)
 
-    pub over-limit : 1024 < w → Finishes (answer 16 (w ∷ 1024 ∷ [])) (filling b ts)
-    over-limit l = rw (le-ltb (length ts) count h, worst-is, lt-ltb 1024 w l, s)
+    pub over-limit : overLimit w ≡ true → Finishes (answer 16 (w ∷ 1024 ∷ [])) (filling b ts)
+    over-limit l = rw (le-ltb (length ts) count h, worst-is, l, s)
 
-    pub within-limit : w ≤ 1024 → (f : Filling) → f ≡ filled (filling (laid b 0 n 0) ts) ends xs → Finishes (answer 0 (n ∷ w ∷ generation ∷ [])) f
-    within-limit l f g = rw (le-ltb (length ts) count h, worst-is, le-ltb 1024 w l, g, s)
+    pub within-limit : overLimit w ≡ false → (f : Filling) → f ≡ filled (filling (laid b 0 n 0) ts) ends xs → Finishes (answer 0 (n ∷ w ∷ generation ∷ [])) f
+    within-limit l f g = rw (le-ltb (length ts) count h, worst-is, l, g, s)
 
 -- the whole
 module _ (count : ℕ) (es : List Entry) (store a ts : List ℕ) (generation : ℕ) where

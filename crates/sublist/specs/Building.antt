@@ -38,6 +38,10 @@ needed store es = length (nodes eqb (linesOf store es))
 unfoldable pub worstOf : List ℕ → List Entry → ℕ
 worstOf store es = worst eqb 32 (linesOf store es)
 
+-- 16: the worst case is greater than 1,024
+abbrev pub overLimit : ℕ → Bool
+overLimit w = ltb 1024 w
+
 -- the entries, the text store, how many nodes and targets are lent, the generation
 unfoldable pub buildSays : List Entry → List ℕ → ℕ → ℕ → ℕ → Answer
 buildSays es store room places generation =
@@ -45,5 +49,5 @@ buildSays es store room places generation =
     (unless (badEntries store 0 es)
     (pick (ltb room (needed store es)) (answer 14 (needed store es ∷ []))
     (pick (ltb places (length es)) (answer 15 [])
-    (pick (ltb 1024 (worstOf store es)) (answer 16 (worstOf store es ∷ 1024 ∷ []))
+    (pick (overLimit (worstOf store es)) (answer 16 (worstOf store es ∷ 1024 ∷ []))
     (answer 0 (needed store es ∷ worstOf store es ∷ generation ∷ []))))))

@@ -6,10 +6,8 @@ use mathlib.Core.Option.{Option, none, some}
 use lib.Dec.{eqb, ltb}
 use lib.ListN.{length, getD}
 use Rattle.subject.specs.Choice.{pick}
-use Rattle.subject.specs.Text.{isStar}
 use Rattle.subject.specs.Answers.{Answer, answer, unless}
-use Rattle.subject.specs.Fnv.{fnv}
-use Rattle.sublist_tree.specs.Tree.{Key, star, lit, Line, line}
+use Rattle.sublist_tree.specs.Tree.{Line, line}
 use Rattle.sublist_area.specs.declared.Placed.{Placed}
 use Rattle.sublist_area.specs.declared.Placed.the-variants.{At, Full, Broken}
 use Rattle.sublist_area.specs.Words.{word}
@@ -23,9 +21,9 @@ use Rattle.sublist.specs.declared.Grown.{Grown}
 use Rattle.sublist.specs.declared.Grown.the-variants as all
 use Rattle.sublist.specs.Answers.{buildRefusal}
 use Rattle.sublist_entries.specs.Entries.{linesOf}
-use Rattle.sublist.specs.Building.{badEntries, needed}
+use Rattle.sublist.specs.Building.{badEntries, needed, overLimit}
 use Rattle.sublist.specs.Leaving.{BuildOutcome}
-use Rattle.sublist.specs.Passes.{End, end, Growth, growth, stopped, linesIn, settled, laid, Filling, filling, filled}
+use Rattle.sublist.specs.Passes.{End, end, Growth, growth, stopped, linesIn, settled, Filling, filling, lastPasses}
 
 -- the refusal of an entry, if there is one
 abbrev pub checked : EntryCheck → Option Answer
@@ -35,10 +33,6 @@ checked (Bad e) = some (buildRefusal e)
 -- an entry by its text's place alone
 abbrev pub placeOf : ℕ → ℕ → Entry
 placeOf start size = record { start = start; length = size; target = 0 }
-
--- the key of a token that is no `>`
-abbrev pub tokenKey : List ℕ → Key ℕ
-tokenKey t = pick (isStar t) star (lit (fnv t))
 
 -- where a run of keys came, as the end of a line
 abbrev pub reached : Placed → List ℕ → Bool → Growth
@@ -101,7 +95,7 @@ abbrev pub answerBy : ℕ → ℕ → ℕ → ℕ → Growth → Answer
 answerBy count need places generation (stopped a) = answer 14 (need ∷ [])
 answerBy count need places generation (growth n a ends) =
     pick (ltb places count) (answer 15 [])
-    (pick (ltb 1024 (rootWorst (settled a (n - 1)))) (answer 16 (rootWorst (settled a (n - 1)) ∷ 1024 ∷ []))
+    (pick (overLimit (rootWorst (settled a (n - 1)))) (answer 16 (rootWorst (settled a (n - 1)) ∷ 1024 ∷ []))
     (answer 0 (n ∷ rootWorst (settled a (n - 1)) ∷ generation ∷ [])))
 
 -- what is left in nodes and targets then
@@ -109,8 +103,8 @@ abbrev pub leftBy : ℕ → List ℕ → List ℕ → Growth → Filling
 leftBy count xs ts (stopped a) = filling a ts
 leftBy count xs ts (growth n a ends) =
     pick (ltb (length ts) count) (filling a ts)
-    (pick (ltb 1024 (rootWorst (settled a (n - 1)))) (filling (settled a (n - 1)) ts)
-    (filled (filling (laid (settled a (n - 1)) 0 n 0) ts) ends xs))
+    (pick (overLimit (rootWorst (settled a (n - 1)))) (filling (settled a (n - 1)) ts)
+    (lastPasses n a ts ends xs))
 
 -- both, of the targets xs put into the words ts
 abbrev pub finishBy : ℕ → ℕ → List ℕ → List ℕ → ℕ → Growth → BuildOutcome

@@ -10,16 +10,16 @@ use Rattle.subject.specs.Answers.{Answer}
 use Rattle.sublist_area.specs.Growing.{planted}
 use Rattle.sublist_entries.specs.declared.Entry.{Entry}
 use Rattle.sublist_entries.specs.Entries.{targetWord, linesOf}
-use Rattle.sublist.specs.Building.{badEntries, worstOf, buildSays}
-use Rattle.sublist.specs.Passes.{Growth, growth, stopped, linesIn, settled, laid, Filling, filling, filled}
+use Rattle.sublist.specs.Building.{badEntries, worstOf, overLimit, buildSays}
+use Rattle.sublist.specs.Passes.{Growth, growth, stopped, linesIn, settled, Filling, filling, lastPasses}
 
 -- a refused build leaves the targets; an accepted one the last three passes
 abbrev pub finished : List Entry → List ℕ → List ℕ → Growth → Filling
 finished es store ts (stopped a) = filling a ts
 finished es store ts (growth n a ends) =
     pick (ltb (length ts) (length es)) (filling a ts)
-    (pick (ltb 1024 (worstOf store es)) (filling (settled a (n - 1)) ts)
-    (filled (filling (laid (settled a (n - 1)) 0 n 0) ts) ends (map targetWord es)))
+    (pick (overLimit (worstOf store es)) (filling (settled a (n - 1)) ts)
+    (lastPasses n a ts ends (map targetWord es)))
 
 abbrev pub started : List Entry → List ℕ → List ℕ → List ℕ → Option Answer → Filling
 started es store a ts (some r) = filling a ts

@@ -1,5 +1,5 @@
 -- What a build does to the words lent for nodes and targets, pass by pass. A line is the keys of a pattern, whether `>` follows, and its target.
-use Prim.Native.Nat.{ℕ, zero, suc, _+_, _*_, _%_, max, min}
+use Prim.Native.Nat.{ℕ, zero, suc, _+_, _-_, _*_, _%_, max, min}
 use mathlib.Core.Bool.{Bool, true, false}
 use mathlib.Core.List.{List, [], _∷_, _++_}
 use lib.Dec.{ltb, eqb}
@@ -90,3 +90,7 @@ unfoldable pub filled : Filling → List End → List ℕ → Filling
 filled f [] targets = f
 filled f (e ∷ es) [] = f
 filled f (e ∷ es) (t ∷ targets) = filled (filledBy f e t) es targets
+
+-- the last three passes, of n nodes, the target words, where the lines end, and the lines' targets
+abbrev pub lastPasses : ℕ → List ℕ → List ℕ → List End → List ℕ → Filling
+lastPasses n a ts ends xs = filled (filling (laid (settled a (n - 1)) 0 n 0) ts) ends xs

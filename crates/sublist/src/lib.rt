@@ -3,21 +3,23 @@ ghost use mathlib.Core.Path.{_≡_};
 ghost use mathlib.Core.List.{[], _++_};
 ghost use mathlib.Core.Option.{none};
 ghost use Prim.Native.Nat.{ℕ, _+_, _-_, _*_, _/_, _%_, _<_, _≤_, max, min};
-ghost use lib.ListN.{length, getD, set, take, drop};
+ghost use lib.ListN.{length, set, take, drop};
 ghost use Rattle.subject.specs.Text.{tokens};
 ghost use Rattle.subject.specs.Answers.{parsed};
 ghost use Rattle.subject.specs.Fnv.{fnv};
 ghost use Rattle.sublist_tree.specs.Tree.{lineOf};
-ghost use Rattle.sublist_area.specs.Words.{word};
+ghost use Rattle.sublist_area.specs.Words.{nodeWords, word, tokenKey};
 ghost use Rattle.sublist_area.specs.Growing.{childOrNew};
 ghost use Rattle.sublist.specs.Answers.{built};
-ghost use Rattle.sublist_entries.specs.Entries.{linesOf};
+ghost use Rattle.sublist_entries.specs.Entries.{maxEntries, linesOf};
 ghost use Rattle.sublist.specs.Building.{invalid, badEntry, badEntries, needed};
-ghost use Rattle.sublist.specs.Passes.{end, growth, counted, countWord, startWord, lineIn, linesIn, nodeWorst, told, settled, laidAt, laid, filling, filledBy, filled};
+ghost use Rattle.sublist.specs.Passes.{end, growth, counted, countWord, startWord, lineIn, linesIn};
+ghost use Rattle.sublist.specs.Passes.{nodeWorst, told, settled, laidAt, laid, filling, filledBy, filled};
 ghost use Rattle.sublist.specs.Flat.{flat};
-ghost use Rattle.sublist_entries.specs.Numbers.{unflat, entriesIn};
-ghost use Rattle.sublist.specs.Sharing.{sameKey, sharedBy, longest};
-ghost use Rattle.sublist.specs.Core.{checked, placeOf, tokenKey, runIn, endedAs, EndFits, endOf, endsOf, EndBelow, grownAs, AllFit, allIn, rootWorst, targetsOf, finishBy, coreInto};
+ghost use Rattle.sublist_entries.specs.Numbers.{entryNumbers, unflat, entriesIn};
+ghost use Rattle.sublist.specs.Sharing.{EntryWithin, sameKey, sharedBy, longest};
+ghost use Rattle.sublist.specs.Core.{checked, placeOf, runIn, endedAs, EndFits, endOf, endsOf, EndBelow};
+ghost use Rattle.sublist.specs.Core.{grownAs, AllFit, allIn, rootWorst, targetsOf, finishBy, coreInto};
 ghost use Rattle.sublist.specs.Leaving.{buildInto};
 use subject::Parsed;
 use subject::SubjectError;
@@ -27,12 +29,18 @@ use subject::is_tail;
 use subject::same_bytes;
 use subject::token_at;
 use subject::token_hash;
+use sublist_area::NODE_WORDS;
 use sublist_area::Placed;
 use sublist_entries::ENTRY_NUMBERS;
 use sublist_entries::Entry;
 use sublist_entries::MAX_ENTRIES;
 use sublist_entries::put_entry;
 use sublist_walk::MAX_FORK_FRONTIER;
+
+// How many values a word has, and the largest.
+const WORD: usize = 4294967296;
+
+const MAX_WORD: u32 = 4294967295;
 
 // Why a build is refused: 01's numbers 10 and 12 to 16, in order.
 pub enum SublistError {
@@ -90,6 +98,22 @@ fn larger(a: u32, b: u32) -> u32
     if a < b { b } else { a }
 }
 
+// A word of a node.
+fn node_word(node_words: &[u32], node: usize, field: usize) -> u32
+    requires { ⌜ (node * nodeWords + nodeWords ≤ length (now «node_words»)) × (field < nodeWords) ⌝ }
+    ensures { λ r. ⌜ r ≡ word (now («node_words» .entry)) node field ⌝ }
+{
+    node_words[node * NODE_WORDS + field]
+}
+
+// A word of a node gets a value.
+fn set_word(node_words: &mut [u32], node: usize, field: usize, value: u32)
+    requires { ⌜ (node * nodeWords + nodeWords ≤ length (now «node_words»)) × (field < nodeWords) ⌝ }
+    ensures { λ _. ⌜ now («node_words» .exit) ≡ set (now («node_words» .entry)) (node * nodeWords + field) value ⌝ }
+{
+    node_words[node * NODE_WORDS + field] = value;
+}
+
 // The refusal of an entry's text, as that of the entry.
 fn refused_entry(text: Parsed) -> EntryCheck
     ensures { λ r. ⌜ checked r ≡ invalid (parsed text) ⌝ }
@@ -120,12 +144,13 @@ fn check_entry(store: &[u8], index: usize, start: usize, size: usize) -> EntryCh
 
 // The first entry that is not sound. Three numbers an entry: start, length, target.
 fn check_entries(words: &[usize], count: usize, store: &[u8]) -> EntryCheck
-    requires { ⌜ count * 3 ≤ length (now words) ⌝ }
+    requires { ⌜ count * entryNumbers ≤ length (now words) ⌝ }
     ensures { λ r. ⌜ checked r ≡ badEntries (now (store .entry)) 0 (unflat count (now (words .entry))) ⌝ }
 {
     let mut i = 0;
     while i < count {
-        let check = check_entry(store, i, words[i * 3], words[i * 3 + 1]);
+        let at = i * ENTRY_NUMBERS;
+        let check = check_entry(store, i, words[at], words[at + 1]);
         let EntryCheck::Sound = check else {
             return check;
         };
@@ -135,19 +160,24 @@ fn check_entries(words: &[usize], count: usize, store: &[u8]) -> EntryCheck
 }
 
 // The child of a node by a token, made where it is missing.
-fn token_or_new(area: &mut [u32], count: usize, node: u32, token: &[u8]) -> Placed
-    ensures { λ r. ⌜ (r, now (area .exit)) ≡ childOrNew (now (area .entry)) count node (tokenKey (now (token .entry))) ⌝ }
+fn token_or_new(node_words: &mut [u32], count: usize, node: u32, token: &[u8]) -> Placed
+    ensures { λ r. ⌜
+        (r, now («node_words» .exit))
+        ≡ childOrNew (now («node_words» .entry)) count node (tokenKey (now (token .entry))) ⌝ }
 {
     if is_star(token) {
-        return sublist_area::star_or_new(area, count, node);
+        return sublist_area::star_or_new(node_words, count, node);
     }
-    sublist_area::literal_or_new(area, count, node, token_hash(token))
+    sublist_area::literal_or_new(node_words, count, node, token_hash(token))
 }
 
 // A pattern's run of tokens is put in from the root.
-fn insert_pattern(area: &mut [u32], nodes: usize, text: &[u8]) -> Ended
-    requires { ⌜ (0 < nodes) × (nodes * 16 ≤ length (now area)) ⌝ }
-    ensures { λ r. ⌜ (endedAs r (now (area .exit)) ≡ runIn (Placed.At 0 nodes, now (area .entry)) (lineOf fnv (tokens (now (text .entry))) 0)) × EndFits r (length (now (area .entry))) ⌝ }
+fn insert_pattern(node_words: &mut [u32], nodes: usize, text: &[u8]) -> Ended
+    requires { ⌜ (0 < nodes) × (nodes * nodeWords ≤ length (now «node_words»)) ⌝ }
+    ensures { λ r. ⌜
+        (endedAs r (now («node_words» .exit))
+        ≡ runIn (Placed.At 0 nodes, now («node_words» .entry)) (lineOf fnv (tokens (now (text .entry))) 0))
+        × EndFits r (length (now («node_words» .entry))) ⌝ }
 {
     let mut at = 0;
     let mut node = 0;
@@ -167,7 +197,7 @@ fn insert_pattern(area: &mut [u32], nodes: usize, text: &[u8]) -> Ended
                 count,
             };
         }
-        match token_or_new(area, count, node, &text[start..end]) {
+        match token_or_new(node_words, count, node, &text[start..end]) {
             Placed::At(id, n) => {
                 node = id;
                 count = n;
@@ -185,36 +215,39 @@ fn insert_pattern(area: &mut [u32], nodes: usize, text: &[u8]) -> Ended
 
 // The word that counts a node's exact or `>` targets.
 fn count_word(tail: bool) -> usize
-    ensures { λ r. ⌜ (r ≡ countWord tail) × (r < 16) ⌝ }
+    ensures { λ r. ⌜ (r ≡ countWord tail) × (r < nodeWords) ⌝ }
 {
     if tail { 7 } else { 5 }
 }
 
 // The word where a node's exact or `>` targets start.
 fn start_word(tail: bool) -> usize
-    ensures { λ r. ⌜ (r ≡ startWord tail) × (r < 16) ⌝ }
+    ensures { λ r. ⌜ (r ≡ startWord tail) × (r < nodeWords) ⌝ }
 {
     if tail { 6 } else { 4 }
 }
 
 // One target more of a node.
-fn count_end(area: &mut [u32], node: usize, tail: bool)
-    requires { ⌜ node * 16 + 16 ≤ length (now area) ⌝ }
-    ensures { λ _. ⌜ now (area .exit) ≡ counted (now (area .entry)) node tail ⌝ }
+fn count_end(node_words: &mut [u32], node: usize, tail: bool)
+    requires { ⌜ node * nodeWords + nodeWords ≤ length (now «node_words») ⌝ }
+    ensures { λ _. ⌜ now («node_words» .exit) ≡ counted (now («node_words» .entry)) node tail ⌝ }
 {
-    let at = node * 16 + count_word(tail);
-    let more = std::num::wrapping_add_u32(area[at], 1);
-    area[at] = more;
+    let field = count_word(tail);
+    let more = std::num::wrapping_add_u32(node_word(node_words, node, field), 1);
+    set_word(node_words, node, field, more);
 }
 
 // A pattern's run of tokens is put in, and its end counts it.
-fn insert_line(area: &mut [u32], nodes: usize, text: &[u8]) -> Ended
-    requires { ⌜ (0 < nodes) × (nodes * 16 ≤ length (now area)) ⌝ }
-    ensures { λ r. ⌜ (endedAs r (now (area .exit)) ≡ lineIn (growth nodes (now (area .entry)) []) (lineOf fnv (tokens (now (text .entry))) 0)) × EndFits r (length (now (area .entry))) ⌝ }
+fn insert_line(node_words: &mut [u32], nodes: usize, text: &[u8]) -> Ended
+    requires { ⌜ (0 < nodes) × (nodes * nodeWords ≤ length (now «node_words»)) ⌝ }
+    ensures { λ r. ⌜
+        (endedAs r (now («node_words» .exit))
+        ≡ lineIn (growth nodes (now («node_words» .entry)) []) (lineOf fnv (tokens (now (text .entry))) 0))
+        × EndFits r (length (now («node_words» .entry))) ⌝ }
 {
-    match insert_pattern(area, nodes, text) {
+    match insert_pattern(node_words, nodes, text) {
         Ended::At { node, tail, count } => {
-            count_end(area, wide(node), tail);
+            count_end(node_words, wide(node), tail);
             Ended::At { node, tail, count }
         }
         Ended::Full => Ended::Full,
@@ -234,18 +267,27 @@ fn insert_entries(
     words: &[usize],
     count: usize,
     store: &[u8],
-    area: &mut [u32],
+    node_words: &mut [u32],
     ends: &mut [usize],
 ) -> Grown
-    requires { ⌜ (count * 3 ≤ length (now words)) × (count ≤ length (now ends)) × (16 ≤ length (now area)) × (badEntries (now store) 0 (unflat count (now words)) ≡ none) ⌝ }
-    ensures { λ r. ⌜ (grownAs r (now (area .exit)) (endsOf count (now (ends .exit))) ≡ linesIn (growth 1 (now (area .entry)) []) (linesOf (now (store .entry)) (unflat count (now (words .entry))))) × AllFit r count (now (ends .exit)) (length (now (area .entry))) ⌝ }
+    requires { ⌜
+        (count * entryNumbers ≤ length (now words))
+        × (count ≤ length (now ends))
+        × (nodeWords ≤ length (now «node_words»))
+        × (badEntries (now store) 0 (unflat count (now words)) ≡ none) ⌝ }
+    ensures { λ r. ⌜
+        (grownAs r (now («node_words» .exit)) (endsOf count (now (ends .exit)))
+        ≡ linesIn (growth 1 (now («node_words» .entry)) [])
+        (linesOf (now (store .entry)) (unflat count (now (words .entry)))))
+        × AllFit r count (now (ends .exit)) (length (now («node_words» .entry))) ⌝ }
 {
     let mut total = 1;
     let mut i = 0;
     while i < count {
-        let from = words[i * 3];
-        let to = from + words[i * 3 + 1];
-        match insert_line(area, total, &store[from..to]) {
+        let at = i * ENTRY_NUMBERS;
+        let from = words[at];
+        let to = from + words[at + 1];
+        match insert_line(node_words, total, &store[from..to]) {
             Ended::At {
                 node,
                 tail,
@@ -268,14 +310,20 @@ fn grow_table(
     words: &[usize],
     count: usize,
     store: &[u8],
-    area: &mut [u32],
+    node_words: &mut [u32],
     ends: &mut [usize],
 ) -> Grown
-    requires { ⌜ (count * 3 ≤ length (now words)) × (count ≤ length (now ends)) × (badEntries (now store) 0 (unflat count (now words)) ≡ none) ⌝ }
-    ensures { λ r. ⌜ (grownAs r (now (area .exit)) (endsOf count (now (ends .exit))) ≡ allIn (unflat count (now (words .entry))) (now (store .entry)) (now (area .entry))) × AllFit r count (now (ends .exit)) (length (now (area .entry))) ⌝ }
+    requires { ⌜
+        (count * entryNumbers ≤ length (now words))
+        × (count ≤ length (now ends))
+        × (badEntries (now store) 0 (unflat count (now words)) ≡ none) ⌝ }
+    ensures { λ r. ⌜
+        (grownAs r (now («node_words» .exit)) (endsOf count (now (ends .exit)))
+        ≡ allIn (unflat count (now (words .entry))) (now (store .entry)) (now («node_words» .entry)))
+        × AllFit r count (now (ends .exit)) (length (now («node_words» .entry))) ⌝ }
 {
-    match sublist_area::plant(area) {
-        Placed::At(_, _) => insert_entries(words, count, store, area, ends),
+    match sublist_area::plant(node_words) {
+        Placed::At(_, _) => insert_entries(words, count, store, node_words, ends),
         Placed::Full => Grown::Full,
         Placed::Broken => Grown::Full,
     }
@@ -333,14 +381,17 @@ fn shared_run(a: &[u8], b: &[u8]) -> usize
 
 // The most keys that a pattern begins with alike with one of the first i entries.
 fn longest_shared(text: &[u8], words: &[usize], i: usize, store: &[u8]) -> usize
-    requires { ⌜ (3 * i ≤ length (now words)) × ((j : ℕ) → j < i → getD (now words) (3 * j) 0 + getD (now words) (3 * j + 1) 0 ≤ length (now store)) ⌝ }
+    requires { ⌜
+        (entryNumbers * i ≤ length (now words))
+        × ((j : ℕ) → j < i → EntryWithin (now store) (now words) j) ⌝ }
     ensures { λ r. ⌜ r ≡ longest (now (store .entry)) (now (text .entry)) (unflat i (now (words .entry))) ⌝ }
 {
     let mut most = 0;
     let mut j = 0;
     while j < i {
-        let start = words[3 * j];
-        let end = start + words[3 * j + 1];
+        let at = ENTRY_NUMBERS * j;
+        let start = words[at];
+        let end = start + words[at + 1];
         let n = shared_run(text, &store[start..end]);
         if most < n {
             most = n;
@@ -350,17 +401,21 @@ fn longest_shared(text: &[u8], words: &[usize], i: usize, store: &[u8]) -> usize
     most
 }
 
-// How many nodes the entries need: the root, and for each entry its keys, less the longest run that it shares with an earlier one.
-// A pattern begins alike with itself by all its keys.
+// How many nodes the entries need: the root, and for each entry its keys, less the longest run that it shares with an
+// earlier one. A pattern begins alike with itself by all its keys.
 fn nodes_needed(words: &[usize], count: usize, store: &[u8]) -> usize
-    requires { ⌜ (count ≤ 2048) × (3 * count ≤ length (now words)) × (badEntries (now store) 0 (unflat count (now words)) ≡ none) ⌝ }
+    requires { ⌜
+        (count ≤ maxEntries)
+        × (entryNumbers * count ≤ length (now words))
+        × (badEntries (now store) 0 (unflat count (now words)) ≡ none) ⌝ }
     ensures { λ r. ⌜ r ≡ needed (now (store .entry)) (unflat count (now (words .entry))) ⌝ }
 {
     let mut needed = 1;
     let mut i = 0;
     while i < count {
-        let start = words[3 * i];
-        let end = start + words[3 * i + 1];
+        let at = ENTRY_NUMBERS * i;
+        let start = words[at];
+        let end = start + words[at + 1];
         let keys = shared_run(&store[start..end], &store[start..end]);
         needed += keys - longest_shared(&store[start..end], words, i, store);
         i += 1;
@@ -380,114 +435,141 @@ fn worst_of(star: u32, literal: u32) -> usize
 }
 
 // The worst case of a node; more than a word holds is the largest word.
-fn node_worst(area: &[u32], i: usize) -> u32
-    requires { ⌜ i * 16 + 16 ≤ length (now area) ⌝ }
-    ensures { λ r. ⌜ r ≡ nodeWorst (now (area .entry)) i ⌝ }
+fn node_worst(node_words: &[u32], i: usize) -> u32
+    requires { ⌜ i * nodeWords + nodeWords ≤ length (now «node_words») ⌝ }
+    ensures { λ r. ⌜ r ≡ nodeWorst (now («node_words» .entry)) i ⌝ }
 {
-    let worst = worst_of(area[i * 16 + 4], area[i * 16 + 6]);
-    if 4294967295 < worst {
-        return 4294967295;
+    let worst = worst_of(node_word(node_words, i, 4), node_word(node_words, i, 6));
+    if WORD <= worst {
+        return MAX_WORD;
     }
     worst as u32
 }
 
 // A node's parent is told its worst case.
-fn tell(area: &mut [u32], i: usize)
-    requires { ⌜ i * 16 + 16 ≤ length (now area) ⌝ }
-    ensures { λ _. ⌜ now (area .exit) ≡ told (now (area .entry)) i (word (now (area .entry)) i 12) ⌝ }
+fn tell(node_words: &mut [u32], i: usize)
+    requires { ⌜ i * nodeWords + nodeWords ≤ length (now «node_words») ⌝ }
+    ensures { λ _. ⌜
+        now («node_words» .exit)
+        ≡ told (now («node_words» .entry)) i (word (now («node_words» .entry)) i 12) ⌝ }
 {
-    let parent = wide(area[i * 16 + 12]);
+    let parent = wide(node_word(node_words, i, 12));
     if i <= parent {
         return;
     }
-    let worst = node_worst(area, i);
-    if wide(area[parent * 16 + 3]) == i {
-        area[parent * 16 + 4] = worst;
+    let worst = node_worst(node_words, i);
+    if wide(node_word(node_words, parent, 3)) == i {
+        set_word(node_words, parent, 4, worst);
         return;
     }
-    let most = larger(area[parent * 16 + 6], worst);
-    area[parent * 16 + 6] = most;
+    let most = larger(node_word(node_words, parent, 6), worst);
+    set_word(node_words, parent, 6, most);
 }
 
 // Second pass: the worst case of each node, told to its parent; the answer is the root's.
-fn settle(area: &mut [u32], count: usize) -> usize
-    requires { ⌜ (0 < count) × (count * 16 ≤ length (now area)) ⌝ }
-    ensures { λ r. ⌜ (now (area .exit) ≡ settled (now (area .entry)) (count - 1)) × (r ≡ rootWorst (now (area .exit))) ⌝ }
+fn settle(node_words: &mut [u32], count: usize) -> usize
+    requires { ⌜ (0 < count) × (count * nodeWords ≤ length (now «node_words»)) ⌝ }
+    ensures { λ r. ⌜
+        (now («node_words» .exit) ≡ settled (now («node_words» .entry)) (count - 1))
+        × (r ≡ rootWorst (now («node_words» .exit))) ⌝ }
 {
     let mut i = count - 1;
     while 0 < i {
-        tell(area, i);
+        tell(node_words, i);
         i -= 1;
     }
-    worst_of(area[4], area[6])
+    worst_of(node_word(node_words, 0, 4), node_word(node_words, 0, 6))
 }
 
 // Where the targets of a node start, exact ones before `>` ones; its counts start again at 0.
-fn lay_node(area: &mut [u32], i: usize, from: u32)
-    requires { ⌜ i * 16 + 16 ≤ length (now area) ⌝ }
-    ensures { λ _. ⌜ now (area .exit) ≡ laidAt (now (area .entry)) i from ⌝ }
+fn lay_node(node_words: &mut [u32], i: usize, from: u32)
+    requires { ⌜ i * nodeWords + nodeWords ≤ length (now «node_words») ⌝ }
+    ensures { λ _. ⌜ now («node_words» .exit) ≡ laidAt (now («node_words» .entry)) i from ⌝ }
 {
-    let at = i * 16;
-    let tails = std::num::wrapping_add_u32(from, area[at + 5]);
-    area[at + 4] = from;
-    area[at + 5] = 0;
-    area[at + 6] = tails;
-    area[at + 7] = 0;
+    let tails = std::num::wrapping_add_u32(from, node_word(node_words, i, 5));
+    set_word(node_words, i, 4, from);
+    set_word(node_words, i, 5, 0);
+    set_word(node_words, i, 6, tails);
+    set_word(node_words, i, 7, 0);
 }
 
 // Where the targets behind those of a node start.
 fn after(from: u32, exact: u32, tails: u32) -> u32
     ensures { λ r. ⌜ r ≡ (from + exact + tails) % 4294967296 ⌝ }
 {
-    ((from as u64 + exact as u64 + tails as u64) % 4294967296) as u32
+    ((from as usize + exact as usize + tails as usize) % WORD) as u32
 }
 
 // Third pass: the nodes' targets, one node behind the other.
-fn lay(area: &mut [u32], count: usize)
-    requires { ⌜ count * 16 ≤ length (now area) ⌝ }
-    ensures { λ _. ⌜ now (area .exit) ≡ laid (now (area .entry)) 0 count 0 ⌝ }
+fn lay(node_words: &mut [u32], count: usize)
+    requires { ⌜ count * nodeWords ≤ length (now «node_words») ⌝ }
+    ensures { λ _. ⌜ now («node_words» .exit) ≡ laid (now («node_words» .entry)) 0 count 0 ⌝ }
 {
     let mut i = 0;
     let mut from = 0;
     while i < count {
-        let next = after(from, area[i * 16 + 5], area[i * 16 + 7]);
-        lay_node(area, i, from);
+        let next = after(
+            from,
+            node_word(node_words, i, 5),
+            node_word(node_words, i, 7),
+        );
+        lay_node(node_words, i, from);
         from = next;
         i += 1;
     }
 }
 
 // A target's place, if there is one, gets it.
-fn put_at(targets: &mut [u32], at: usize, target: u32)
-    ensures { λ _. ⌜ now (targets .exit) ≡ set (now (targets .entry)) at target ⌝ }
+fn put_at(target_words: &mut [u32], at: usize, target: u32)
+    ensures { λ _. ⌜ now («target_words» .exit) ≡ set (now («target_words» .entry)) at target ⌝ }
 {
-    if targets.len() <= at {
+    if target_words.len() <= at {
         return;
     }
-    targets[at] = target;
+    target_words[at] = target;
 }
 
 // A target is put behind those that its end has.
-fn put_target(area: &mut [u32], targets: &mut [u32], node: usize, tail: bool, target: u32)
-    requires { ⌜ node * 16 + 16 ≤ length (now area) ⌝ }
-    ensures { λ _. ⌜ filling (now (area .exit)) (now (targets .exit)) ≡ filledBy (filling (now (area .entry)) (now (targets .entry))) (end node tail) target ⌝ }
+fn put_target(
+    node_words: &mut [u32],
+    target_words: &mut [u32],
+    node: usize,
+    tail: bool,
+    target: u32,
+)
+    requires { ⌜ node * nodeWords + nodeWords ≤ length (now «node_words») ⌝ }
+    ensures { λ _. ⌜
+        filling (now («node_words» .exit)) (now («target_words» .exit))
+        ≡ filledBy (filling (now («node_words» .entry)) (now («target_words» .entry))) (end node tail) target ⌝ }
 {
-    let start = node * 16 + start_word(tail);
-    let count = node * 16 + count_word(tail);
-    put_at(targets, sum(area[start], area[count]), target);
-    count_end(area, node, tail);
+    let start = node_word(node_words, node, start_word(tail));
+    let count = node_word(node_words, node, count_word(tail));
+    put_at(target_words, sum(start, count), target);
+    count_end(node_words, node, tail);
 }
 
 // Fourth pass: each entry's target is put behind those that its end has.
-fn put_targets(words: &[usize], ends: &[usize], count: usize, area: &mut [u32], targets: &mut [u32])
-    requires { ⌜ (count * 3 ≤ length (now words)) × (count ≤ length (now ends)) × EndBelow count (now ends) (length (now area) / 16) ⌝ }
-    ensures { λ _. ⌜ filling (now (area .exit)) (now (targets .exit)) ≡ filled (filling (now (area .entry)) (now (targets .entry))) (endsOf count (now (ends .entry))) (targetsOf (unflat count (now (words .entry)))) ⌝ }
+fn put_targets(
+    words: &[usize],
+    ends: &[usize],
+    count: usize,
+    node_words: &mut [u32],
+    target_words: &mut [u32],
+)
+    requires { ⌜
+        (count * entryNumbers ≤ length (now words))
+        × (count ≤ length (now ends))
+        × EndBelow count (now ends) (length (now «node_words») / nodeWords) ⌝ }
+    ensures { λ _. ⌜
+        filling (now («node_words» .exit)) (now («target_words» .exit))
+        ≡ filled (filling (now («node_words» .entry)) (now («target_words» .entry)))
+        (endsOf count (now (ends .entry))) (targetsOf (unflat count (now (words .entry)))) ⌝ }
 {
     let mut i = 0;
     while i < count {
         let end = ends[i];
-        let target = (words[i * 3 + 2] % 4294967296) as u32;
-        put_target(area, targets, end / 2, end % 2 == 1, target);
+        let target = (words[i * ENTRY_NUMBERS + 2] % WORD) as u32;
+        put_target(node_words, target_words, end / 2, end % 2 == 1, target);
         i += 1;
     }
 }
@@ -497,29 +579,34 @@ fn finish(
     words: &[usize],
     count: usize,
     ends: &[usize],
-    area: &mut [u32],
+    node_words: &mut [u32],
     total: usize,
-    targets: &mut [u32],
+    target_words: &mut [u32],
     generation: u64,
 ) -> Built
-    requires { ⌜ (count * 3 ≤ length (now words)) × (count ≤ length (now ends)) × (0 < total) × (total * 16 ≤ length (now area)) × EndBelow count (now ends) (length (now area) / 16) ⌝ }
+    requires { ⌜
+        (count * entryNumbers ≤ length (now words))
+        × (count ≤ length (now ends))
+        × (0 < total)
+        × (total * nodeWords ≤ length (now «node_words»))
+        × EndBelow count (now ends) (length (now «node_words») / nodeWords) ⌝ }
     ensures { λ r. ⌜
-        built r (now (area .exit)) (now (targets .exit))
-        ≡ finishBy count 0 (targetsOf (unflat count (now (words .entry)))) (now (targets .entry)) generation
-        (growth total (now (area .entry)) (endsOf count (now (ends .entry)))) ⌝ }
+        built r (now («node_words» .exit)) (now («target_words» .exit))
+        ≡ finishBy count 0 (targetsOf (unflat count (now (words .entry)))) (now («target_words» .entry)) generation
+        (growth total (now («node_words» .entry)) (endsOf count (now (ends .entry)))) ⌝ }
 {
-    if targets.len() < count {
+    if target_words.len() < count {
         return Built::Refused(SublistError::TargetsFull);
     }
-    let worst_case = settle(area, total);
+    let worst_case = settle(node_words, total);
     if MAX_FORK_FRONTIER < worst_case {
         return Built::Refused(SublistError::ForkLimitExceeded {
             worst_case,
             limit: MAX_FORK_FRONTIER,
         });
     }
-    lay(area, total);
-    put_targets(words, ends, count, area, targets);
+    lay(node_words, total);
+    put_targets(words, ends, count, node_words, target_words);
     Built::Table {
         nodes: total,
         worst_case,
@@ -533,36 +620,48 @@ fn build_words(
     count: usize,
     ends: &mut [usize],
     store: &[u8],
-    area: &mut [u32],
-    targets: &mut [u32],
+    node_words: &mut [u32],
+    target_words: &mut [u32],
     generation: u64,
 ) -> Built
-    requires { ⌜ (3 * min count 2048 ≤ length (now words)) × (2048 ≤ length (now ends)) ⌝ }
+    requires { ⌜
+        (entryNumbers * min count maxEntries ≤ length (now words))
+        × (maxEntries ≤ length (now ends)) ⌝ }
     ensures { λ r. ⌜
-        built r (now (area .exit)) (now (targets .exit))
+        built r (now («node_words» .exit)) (now («target_words» .exit))
         ≡ coreInto count (unflat count (now (words .entry))) (now (store .entry))
-        (now (area .entry)) (now (targets .entry)) generation ⌝ }
+        (now («node_words» .entry)) (now («target_words» .entry)) generation ⌝ }
 {
     if MAX_ENTRIES < count {
         return Built::Refused(SublistError::EntriesFull);
     }
     match check_entries(words, count, store) {
         EntryCheck::Bad(e) => Built::Refused(e),
-        EntryCheck::Sound => match grow_table(words, count, store, area, ends) {
+        EntryCheck::Sound => match grow_table(words, count, store, node_words, ends) {
             Grown::Full => Built::Refused(SublistError::NodesFull(nodes_needed(
                 words,
                 count,
                 store,
             ))),
-            Grown::Nodes(total) => finish(words, count, ends, area, total, targets, generation),
+            Grown::Nodes(total) => finish(
+                words,
+                count,
+                ends,
+                node_words,
+                total,
+                target_words,
+                generation,
+            ),
         },
     }
 }
 
-// The numbers of the first n entries, three for each, are put at the start of the words; what lies behind them stays.
+// The numbers of the first n entries, three for each, are put at the start of the words; what lies behind stays.
 fn unpack(entries: &[Entry], n: usize, words: &mut [usize])
-    requires { ⌜ (n ≤ length (now entries)) × (3 * n ≤ length (now words)) ⌝ }
-    ensures { λ _. ⌜ now (words .exit) ≡ flat (take n (now (entries .entry))) ++ drop (3 * n) (now (words .entry)) ⌝ }
+    requires { ⌜ (n ≤ length (now entries)) × (entryNumbers * n ≤ length (now words)) ⌝ }
+    ensures { λ _. ⌜
+        now (words .exit)
+        ≡ flat (take n (now (entries .entry))) ++ drop (entryNumbers * n) (now (words .entry)) ⌝ }
 {
     let mut i = 0;
     while i < n {
@@ -573,7 +672,7 @@ fn unpack(entries: &[Entry], n: usize, words: &mut [usize])
 
 // How many of so many entries are taken apart: no more than a list may have.
 fn least(entries: usize) -> usize
-    ensures { λ r. ⌜ r ≡ min entries 2048 ⌝ }
+    ensures { λ r. ⌜ r ≡ min entries maxEntries ⌝ }
 {
     if entries <= MAX_ENTRIES {
         return entries;
@@ -590,7 +689,7 @@ fn build_numbers(
     target_words: &mut [u32],
     generation: u64,
 ) -> Built
-    requires { ⌜ 6144 ≤ length (now words) ⌝ }
+    requires { ⌜ entryNumbers * maxEntries ≤ length (now words) ⌝ }
     ensures { λ r. ⌜
         built r (now («node_words» .exit)) (now («target_words» .exit))
         ≡ coreInto count (unflat count (now (words .entry))) (now (store .entry))

@@ -9,13 +9,23 @@ use mathlib.Core.List.{List}
 use lib.Dec.{ltb, leb, eqb}
 use lib.ListN.{length, getD}
 use Rattle.subject.specs.Choice.{pick, and, or}
+use Rattle.subject.specs.Text.{isStar}
+use Rattle.subject.specs.Fnv.{fnv}
 use Rattle.sublist_area.specs.declared.Child.{Child}
 use Rattle.sublist_area.specs.declared.Child.the-variants.{Node, Missing, Damaged}
 use Rattle.sublist_tree.specs.Tree.{Key, star, lit}
 
+-- how many words a node takes
+abbrev pub nodeWords : ℕ
+nodeWords = 16
+
 -- word f of node i
 abbrev pub word : List ℕ → ℕ → ℕ → ℕ
 word a i f = getD a (i * 16 + f) 0
+
+-- the key of a token that is no `>`
+abbrev pub tokenKey : List ℕ → Key ℕ
+tokenKey t = pick (isStar t) star (lit (fnv t))
 
 -- node i has the hash h
 abbrev pub hashIs : List ℕ → ℕ → ℕ → Bool

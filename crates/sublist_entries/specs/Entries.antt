@@ -8,6 +8,10 @@ use Rattle.sublist_tree.specs.Table.{TableEntry, rootOf}
 use Rattle.sublist_entries.specs.declared.Entry.{Entry}
 use Rattle.sublist_entries.specs.declared.ListState.{ListState}
 
+-- the most entries that a list may have
+abbrev pub maxEntries : ℕ
+maxEntries = 2048
+
 -- the entries in use; a count above the lent list counts as its length
 abbrev pub inUse : ListState → List Entry → List Entry
 inUse list es = take (list .entries) es

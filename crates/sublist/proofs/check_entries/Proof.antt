@@ -19,23 +19,20 @@ abbrev μ-loop : tie.MeasureT-loop
 loop-holds : tie.Need-loop-holds Inv-loop μ-loop
 loop-holds c = (simp sub-zero, search needs)
 
+mul-at : tie.Need-mul-at Inv-loop μ-loop
+mul-at c = search needs
+
 mul-check-entry : tie.Need-mul-check-entry Inv-loop μ-loop
 mul-check-entry c = search needs
-
-mul-check-entry-2 : tie.Need-mul-check-entry-2 Inv-loop μ-loop
-mul-check-entry-2 c = search needs
 
 shared-slice-read-check-entry : tie.Need-shared-slice-read-check-entry Inv-loop μ-loop
 shared-slice-read-check-entry c = search needs
 
-mul-check-entry-3 : tie.Need-mul-check-entry-3 Inv-loop μ-loop
-mul-check-entry-3 c = search needs
-
 add-check-entry : tie.Need-add-check-entry Inv-loop μ-loop
 add-check-entry c = search needs
 
-mul-check-entry-4 : tie.Need-mul-check-entry-4 Inv-loop μ-loop
-mul-check-entry-4 c = search needs
+mul-check-entry-2 : tie.Need-mul-check-entry-2 Inv-loop μ-loop
+mul-check-entry-2 c = search needs
 
 shared-slice-read-check-entry-2 : tie.Need-shared-slice-read-check-entry-2 Inv-loop μ-loop
 shared-slice-read-check-entry-2 c = search needs
@@ -81,12 +78,11 @@ check-entries-spec =
     Inv-loop
     μ-loop
     loop-holds
+    mul-at
     mul-check-entry
-    mul-check-entry-2
     shared-slice-read-check-entry
-    mul-check-entry-3
     add-check-entry
-    mul-check-entry-4
+    mul-check-entry-2
     shared-slice-read-check-entry-2
     check-entry-requires
     enum-told

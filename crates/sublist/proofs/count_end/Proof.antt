@@ -4,48 +4,35 @@ use Rattle.sublist.specs.Passes.{counted}
 use Rattle.sublist.proofs.count_end.Statement.{statement}
 use Rattle.sublist.proofs.count_end.Tie as tie
 
-mul-at : tie.Need-mul-at
-mul-at c = search needs
-
 count-word-requires : tie.Need-count-word-requires
 count-word-requires c κs = search needs
 
-add-at : tie.Need-add-at
-add-at c = search needs
-
-mul-wrapping-add-u32 : tie.Need-mul-wrapping-add-u32
-mul-wrapping-add-u32 c = search needs
-
-slice-read-wrapping-add-u32 : tie.Need-slice-read-wrapping-add-u32
-slice-read-wrapping-add-u32 c = search needs
+node-word-requires : tie.Need-node-word-requires
+node-word-requires c κs = search needs
 
 wrapping-add-u32-requires : tie.Need-wrapping-add-u32-requires
 wrapping-add-u32-requires c κs = search needs
 
-mul-area : tie.Need-mul-area
-mul-area c = search needs
-
-slice-write-area : tie.Need-slice-write-area
-slice-write-area c = search needs
+set-word-requires : tie.Need-set-word-requires
+set-word-requires c κs = search needs
 
 same-length : tie.Need-same-length
 same-length c = search needs
 
 returns : tie.Need-returns
 unfolding counted
-returns c = rw (c .wrapping-add-u32 .ensures, c .before .before .count-word .ensures .0)
+returns c =
+    let s = c .before .before in
+    let w = s .before .before in
+    rw (s .set-word .ensures, w .wrapping-add-u32 .ensures, w .before .node-word .ensures, w .before .before .before .count-word .ensures .0)
 
 pub count-end-spec : {M : Type 1} → statement M
 count-end-spec =
     tie.close
     (tie.spec
-    mul-at
     count-word-requires
-    add-at
-    mul-wrapping-add-u32
-    slice-read-wrapping-add-u32
+    node-word-requires
     wrapping-add-u32-requires
-    mul-area
-    slice-write-area
+    set-word-requires
     same-length
     returns)

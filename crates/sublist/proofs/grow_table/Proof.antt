@@ -38,8 +38,8 @@ returns c =
     let d = n .before .before .before in
     let k = d .before .before .before .before in
     let g = k .before .before .before .before .before .before .args in
-    let root = rooted-at (g .area .now) _ (k .plant .last .0) (k .plant .ensures) _ _ (d .enum-told .given .1) in (
-      n .insert-entries .ensures .0 ∙ rw (root .1) (grow-room (unflat (g .count) (g .words .now)) (g .store .now) (g .area .now) (root .0)),
+    let root = rooted-at (g .node-words .now) _ (k .plant .last .0) (k .plant .ensures) _ _ (d .enum-told .given .1) in (
+      n .insert-entries .ensures .0 ∙ rw (root .1) (grow-room (unflat (g .count) (g .words .now)) (g .store .now) (g .node-words .now) (root .0)),
       rw (k .plant .kept .0) at (n .insert-entries .ensures .1),
     )
 
@@ -50,8 +50,8 @@ returns-2 : tie.Need-returns-2
 returns-2 c =
     let k = c .before .before .before .before in
     let g = k .before .before .before .before .before .before .args in
-    let root = rooted-full (g .area .now) _ (k .plant .last .0) (k .plant .ensures) (c .enum-told2 .given .1) in
-    (rw (root .1) (grow-short (unflat (g .count) (g .words .now)) (g .store .now) (g .area .now) (root .0)), tt)
+    let root = rooted-full (g .node-words .now) _ (k .plant .last .0) (k .plant .ensures) (c .enum-told2 .given .1) in
+    (rw (root .1) (grow-short (unflat (g .count) (g .words .now)) (g .store .now) (g .node-words .now) (root .0)), tt)
 
 same-length-4 : tie.Need-same-length-4
 same-length-4 c = search needs

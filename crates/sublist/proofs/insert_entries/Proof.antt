@@ -18,36 +18,33 @@ use Rattle.sublist.proofs.insert_entries.Statement.{statement}
 use Rattle.sublist.proofs.insert_entries.Tie as tie
 
 abbrev Inv-loop : tie.InvT-loop
-Inv-loop words count store area₀ ends₀ total₀ i₀ area ends total i =
-    (linesIn (growth total area (endsOf i ends)) (linesOf store (unflat (count - i) (drop (i * 3) words)))
-    ≡ linesIn (growth 1 area₀ []) (linesOf store (unflat count words)))
+Inv-loop words count store node-words₀ ends₀ total₀ i₀ node-words ends total i =
+    (linesIn (growth total node-words (endsOf i ends)) (linesOf store (unflat (count - i) (drop (i * 3) words)))
+    ≡ linesIn (growth 1 node-words₀ []) (linesOf store (unflat count words)))
     × (badEntries store i (unflat (count - i) (drop (i * 3) words)) ≡ none)
-    × (length area ≡ length area₀) × (length ends ≡ length ends₀) × EndBelow i ends (length area₀ / 16)
-    × (0 < total) × (total * 16 ≤ length area₀) × (i ≤ count)
+    × (length node-words ≡ length node-words₀) × (length ends ≡ length ends₀) × EndBelow i ends (length node-words₀ / 16)
+    × (0 < total) × (total * 16 ≤ length node-words₀) × (i ≤ count)
 
 abbrev μ-loop : tie.MeasureT-loop
-μ-loop words count store area₀ ends₀ total₀ i₀ area ends total i = count - i
+μ-loop words count store node-words₀ ends₀ total₀ i₀ node-words ends total i = count - i
 
 loop-holds : tie.Need-loop-holds Inv-loop μ-loop
 loop-holds c = (simp sub-zero, simp sub-zero (c .before .before .before .before .pre .3), refl, refl, λ k p. absurd (omega arith), search needs, search needs, search needs)
 
+mul-at : tie.Need-mul-at Inv-loop μ-loop
+mul-at c = search needs
+
 mul-from : tie.Need-mul-from Inv-loop μ-loop
 mul-from c = search needs
-
-mul-from-2 : tie.Need-mul-from-2 Inv-loop μ-loop
-mul-from-2 c = search needs
 
 shared-slice-read-from : tie.Need-shared-slice-read-from Inv-loop μ-loop
 shared-slice-read-from c = search needs
 
-mul-to : tie.Need-mul-to Inv-loop μ-loop
-mul-to c = search needs
-
 add-to : tie.Need-add-to Inv-loop μ-loop
 add-to c = search needs
 
-mul-to-2 : tie.Need-mul-to-2 Inv-loop μ-loop
-mul-to-2 c = search needs
+mul-to : tie.Need-mul-to Inv-loop μ-loop
+mul-to c = search needs
 
 shared-slice-read-to : tie.Need-shared-slice-read-to Inv-loop μ-loop
 shared-slice-read-to c = search needs
@@ -105,7 +102,7 @@ returns c =
     let t = k .before .before .before .before .before in
     let l = t .before .loop in
     let r = t .before .before .before .before .before .before .pre in
-    (lines-stop _ _ _ (l .i) _ (l .area) (l .ends) (l .total) (l .inv .0) (t .loop-test .taken) (r .0) _ (k .insert-line .last .0) (k .insert-line .ensures .0) (c .enum-told .given .1), tt)
+    (lines-stop _ _ _ (l .i) _ (l .node-words) (l .ends) (l .total) (l .inv .0) (t .loop-test .taken) (r .0) _ (k .insert-line .last .0) (k .insert-line .ensures .0) (c .enum-told .given .1), tt)
 
 add-i : tie.Need-add-i Inv-loop μ-loop
 add-i c = search needs
@@ -123,7 +120,7 @@ loop-again c =
     let q = d .node .given .1 in
     let fits = rw q at (k .insert-line .ensures .1) in
     let node = end-node _ _ _ (c .end-number .ensures) in (
-      lines-on _ _ _ (l .i) _ (l .area) (l .ends) (l .total) (l .inv .0) (t .loop-test .taken) (r .0) _ (k .insert-line .last .0) (k .insert-line .ensures .0) _ _ _ _ q (c .end-number .ensures) (omega arith),
+      lines-on _ _ _ (l .i) _ (l .node-words) (l .ends) (l .total) (l .inv .0) (t .loop-test .taken) (r .0) _ (k .insert-line .last .0) (k .insert-line .ensures .0) _ _ _ _ q (c .end-number .ensures) (omega arith),
       sound-on _ _ (l .i) _ (t .loop-test .taken) (r .0) (l .inv .1),
       k .insert-line .kept .0 ∙ l .inv .2,
       simp length-set (l .inv .3),
@@ -142,7 +139,7 @@ same-length-4 c = c .before .loop .inv .3
 returns-2 : tie.Need-returns-2 Inv-loop μ-loop
 returns-2 c =
     let l = c .before .loop in
-    (lines-end _ _ _ (l .i) _ (l .area) (l .ends) (l .total) (l .inv .0) (c .loop-test .left) (l .inv .7), (l .inv .5, l .inv .6, λ k p. l .inv .4 k (omega arith)))
+    (lines-end _ _ _ (l .i) _ (l .node-words) (l .ends) (l .total) (l .inv .0) (c .loop-test .left) (l .inv .7), (l .inv .5, l .inv .6, λ k p. l .inv .4 k (omega arith)))
 
 pub insert-entries-spec : {M : Type 1} → statement M
 insert-entries-spec =
@@ -151,12 +148,11 @@ insert-entries-spec =
     Inv-loop
     μ-loop
     loop-holds
+    mul-at
     mul-from
-    mul-from-2
     shared-slice-read-from
-    mul-to
     add-to
-    mul-to-2
+    mul-to
     shared-slice-read-to
     add-to-2
     sub-insert-line

@@ -18,12 +18,12 @@ use Rattle.sublist.proofs.insert_pattern.Statement.{statement}
 use Rattle.sublist.proofs.insert_pattern.Tie as tie
 
 abbrev Inv-loop : tie.InvT-loop
-Inv-loop area₀ nodes text at₀ node₀ count₀ area at node count =
-    (runIn (At node count, area) (lineOf fnv (tokensFrom text at) 0) ≡ runIn (At 0 nodes, area₀) (lineOf fnv (tokens text) 0))
-    × (length area ≡ length area₀) × (node < count) × (count * 16 ≤ length area₀)
+Inv-loop node-words₀ nodes text at₀ node₀ count₀ node-words at node count =
+    (runIn (At node count, node-words) (lineOf fnv (tokensFrom text at) 0) ≡ runIn (At 0 nodes, node-words₀) (lineOf fnv (tokens text) 0))
+    × (length node-words ≡ length node-words₀) × (node < count) × (count * 16 ≤ length node-words₀)
 
 abbrev μ-loop : tie.MeasureT-loop
-μ-loop area₀ nodes text at₀ node₀ count₀ area at node count = length text + 1 - at
+μ-loop node-words₀ nodes text at₀ node₀ count₀ node-words at node count = length text + 1 - at
 
 loop-holds : tie.Need-loop-holds Inv-loop μ-loop
 loop-holds c = (rw (tokens-start (c .before .before .args .text .now)), refl, search needs, search needs)
@@ -44,7 +44,7 @@ returns : tie.Need-returns Inv-loop μ-loop
 returns c =
     let f = c .before .before in
     let l = f .before .loop in
-    (run-end _ (l .area) (l .count) (l .node) _ (l .inv .0) (end-met _ _ _ (f .token-at .ensures) (c .enum-told .given .1)), (l .inv .2, l .inv .3))
+    (run-end _ (l .node-words) (l .count) (l .node) _ (l .inv .0) (end-met _ _ _ (f .token-at .ensures) (c .enum-told .given .1)), (l .inv .2, l .inv .3))
 
 sub-is-tail : tie.Need-sub-is-tail Inv-loop μ-loop
 sub-is-tail c =
@@ -76,7 +76,7 @@ returns-2 c =
     let f = s .before .before in
     let l = f .before .loop in
     let cut = part-met _ _ _ (f .token-at .ensures) _ _ _ (s .start .given .1) in
-    (run-tail _ (l .area) (l .count) (l .node) _ (l .inv .0) _ _ cut _ (k .is-tail .ensures) (c .if1 .taken), (l .inv .2, l .inv .3))
+    (run-tail _ (l .node-words) (l .count) (l .node) _ (l .inv .0) _ _ cut _ (k .is-tail .ensures) (c .if1 .taken), (l .inv .2, l .inv .3))
 
 sub-token-or-new : tie.Need-sub-token-or-new Inv-loop μ-loop
 sub-token-or-new c =
@@ -116,7 +116,7 @@ returns-3 c =
     let f = s .before .before in
     let l = f .before .loop in
     let cut = part-met _ _ _ (f .token-at .ensures) _ _ _ (s .start .given .1) in
-    (run-full _ (l .area) (l .count) (l .node) _ (l .inv .0) _ _ cut _ (g .before .is-tail .ensures) (g .if1 .left) _ _ (k .token-or-new .ensures) (c .enum-told2 .given .1), tt)
+    (run-full _ (l .node-words) (l .count) (l .node) _ (l .inv .0) _ _ cut _ (g .before .is-tail .ensures) (g .if1 .left) _ _ (k .token-or-new .ensures) (c .enum-told2 .given .1), tt)
 
 enum-told-3 : tie.Need-enum-told-3 Inv-loop μ-loop
 enum-told-3 c = search needs
@@ -135,7 +135,7 @@ returns-4 c =
     let f = s .before .before in
     let l = f .before .loop in
     let cut = part-met _ _ _ (f .token-at .ensures) _ _ _ (s .start .given .1) in
-    (run-broken _ (l .area) (l .count) (l .node) _ (l .inv .0) _ _ cut _ (g .before .is-tail .ensures) (g .if1 .left) _ _ (k .token-or-new .ensures) (c .enum-told3 .given .1), tt)
+    (run-broken _ (l .node-words) (l .count) (l .node) _ (l .inv .0) _ _ cut _ (g .before .is-tail .ensures) (g .if1 .left) _ _ (k .token-or-new .ensures) (c .enum-told3 .given .1), tt)
 
 loop-less : tie.Need-loop-less Inv-loop μ-loop
 loop-less c =
@@ -152,8 +152,8 @@ loop-again c =
     let l = f .before .loop in
     let cut = part-met _ _ _ (f .token-at .ensures) _ _ _ (s .start .given .1) in
     let q = c .before .id .given .1 in
-    let fits = rw q at (place-fits (l .area) (l .count) (l .node) _ (k .token-or-new .result) (k .token-or-new .last .0) (k .token-or-new .ensures) (omega arith)) in (
-      run-on _ (l .area) (l .count) (l .node) _ (l .inv .0) _ _ cut _ (g .before .is-tail .ensures) (g .if1 .left) _ _ (k .token-or-new .ensures) _ _ q,
+    let fits = rw q at (place-fits (l .node-words) (l .count) (l .node) _ (k .token-or-new .result) (k .token-or-new .last .0) (k .token-or-new .ensures) (omega arith)) in (
+      run-on _ (l .node-words) (l .count) (l .node) _ (l .inv .0) _ _ cut _ (g .before .is-tail .ensures) (g .if1 .left) _ _ (k .token-or-new .ensures) _ _ q,
       k .token-or-new .kept .0 ∙ l .inv .1,
       fits .0,
       omega arith,

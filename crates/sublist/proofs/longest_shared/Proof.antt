@@ -21,23 +21,20 @@ loop-holds c =
     let g = c .before .before .before .args in
     (search needs, sym (longest-none (g .store .now) (g .text .now)))
 
+mul-at : tie.Need-mul-at Inv-loop μ-loop
+mul-at c = search needs
+
 mul-start : tie.Need-mul-start Inv-loop μ-loop
 mul-start c = search needs
-
-mul-start-2 : tie.Need-mul-start-2 Inv-loop μ-loop
-mul-start-2 c = search needs
 
 shared-slice-read-start : tie.Need-shared-slice-read-start Inv-loop μ-loop
 shared-slice-read-start c = search needs
 
-mul-end : tie.Need-mul-end Inv-loop μ-loop
-mul-end c = search needs
-
 add-end : tie.Need-add-end Inv-loop μ-loop
 add-end c = search needs
 
-mul-end-2 : tie.Need-mul-end-2 Inv-loop μ-loop
-mul-end-2 c = search needs
+mul-end : tie.Need-mul-end Inv-loop μ-loop
+mul-end c = search needs
 
 shared-slice-read-end : tie.Need-shared-slice-read-end Inv-loop μ-loop
 shared-slice-read-end c = search needs
@@ -91,12 +88,11 @@ longest-shared-spec =
     Inv-loop
     μ-loop
     loop-holds
+    mul-at
     mul-start
-    mul-start-2
     shared-slice-read-start
-    mul-end
     add-end
-    mul-end-2
+    mul-end
     shared-slice-read-end
     add-end-2
     sub-shared-run

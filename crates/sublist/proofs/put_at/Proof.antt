@@ -8,11 +8,11 @@ use Rattle.sublist.proofs.put_at.Tie as tie
 returns : tie.Need-returns
 returns c = sym (set-out _ _ _ (c .if1 .taken))
 
-mul-targets : tie.Need-mul-targets
-mul-targets c = search needs
+mul-target-words : tie.Need-mul-target-words
+mul-target-words c = search needs
 
-slice-write-targets : tie.Need-slice-write-targets
-slice-write-targets c = search needs
+slice-write-target-words : tie.Need-slice-write-target-words
+slice-write-target-words c = search needs
 
 same-length : tie.Need-same-length
 same-length c = search needs
@@ -21,4 +21,4 @@ returns-2 : tie.Need-returns-2
 returns-2 c = search needs
 
 pub put-at-spec : {M : Type 1} → statement M
-put-at-spec = tie.close (tie.spec returns mul-targets slice-write-targets same-length returns-2)
+put-at-spec = tie.close (tie.spec returns mul-target-words slice-write-target-words same-length returns-2)

@@ -9,10 +9,10 @@ use Rattle.sublist.proofs.settle.Statement.{statement}
 use Rattle.sublist.proofs.settle.Tie as tie
 
 abbrev Inv-loop : tie.InvT-loop
-Inv-loop area₀ count i₀ area i = (settled area i ≡ settled area₀ (count - 1)) × (length area ≡ length area₀) × (i < count)
+Inv-loop node-words₀ count i₀ node-words i = (settled node-words i ≡ settled node-words₀ (count - 1)) × (length node-words ≡ length node-words₀) × (i < count)
 
 abbrev μ-loop : tie.MeasureT-loop
-μ-loop area₀ count i₀ area i = i
+μ-loop node-words₀ count i₀ node-words i = i
 
 sub-i : tie.Need-sub-i Inv-loop μ-loop
 sub-i c = search needs
@@ -33,25 +33,29 @@ loop-again : tie.Need-loop-again Inv-loop μ-loop
 loop-again c =
     let k = c .before .before in
     let l = k .before .before .before .loop in
-    ((rw (k .tell .ensures) (sym (settle-on (l .area) (l .i) (k .before .before .loop-test .taken)))) ∙ l .inv .0, k .tell .kept .0 ∙ l .inv .1, search needs)
+    ((rw (k .tell .ensures) (sym (settle-on (l .node-words) (l .i) (k .before .before .loop-test .taken)))) ∙ l .inv .0, k .tell .kept .0 ∙ l .inv .1, search needs)
 
-slice-read-worst-of : tie.Need-slice-read-worst-of Inv-loop μ-loop
-slice-read-worst-of c = search needs
+node-word-requires : tie.Need-node-word-requires Inv-loop μ-loop
+node-word-requires c κs = search needs
 
-slice-read-worst-of-2 : tie.Need-slice-read-worst-of-2 Inv-loop μ-loop
-slice-read-worst-of-2 c = search needs
+node-word-requires-2 : tie.Need-node-word-requires-2 Inv-loop μ-loop
+node-word-requires-2 c κs = search needs
 
 worst-of-requires : tie.Need-worst-of-requires Inv-loop μ-loop
 worst-of-requires c κs = search needs
 
 same-length : tie.Need-same-length Inv-loop μ-loop
-same-length c = c .before .before .before .before .loop .inv .1
+same-length c =
+    let e = c .before .before .before .before .before in
+    e .before .loop .inv .1
 
 returns : tie.Need-returns Inv-loop μ-loop
 returns c =
-    let k = c .before .before .before in
-    let l = k .before .loop in
-    (sym (settle-end (l .area) (l .i) (k .loop-test .left)) ∙ l .inv .0, c .worst-of .ensures)
+    let w = c .before in
+    let v = w .before .before in
+    let e = v .before .before in
+    let l = e .before .loop in
+    (sym (settle-end (l .node-words) (l .i) (e .loop-test .left)) ∙ l .inv .0, c .worst-of .ensures ∙ rw (w .node-word2 .ensures, v .node-word .ensures))
 
 pub settle-spec : {M : Type 1} → statement M
 settle-spec =
@@ -65,8 +69,8 @@ settle-spec =
     sub-i-2
     loop-less
     loop-again
-    slice-read-worst-of
-    slice-read-worst-of-2
+    node-word-requires
+    node-word-requires-2
     worst-of-requires
     same-length
     returns)
