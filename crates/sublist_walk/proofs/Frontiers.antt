@@ -14,7 +14,7 @@ use Rattle.sublist_trie.specs.Trie.{leftAt}
 use Rattle.sublist_area.specs.declared.Child.{Child}
 use Rattle.sublist_area.specs.declared.Child.the-variants.{Node, Missing, Damaged}
 use Rattle.sublist_area.specs.Words.{word, childOf}
-use Rattle.sublist_walk.specs.Walk.{part, among, Level, level, wide, damaged, Walk, at, tooWide, broken, Walked, found, failed, collect, push, visit, visits, arrived, onToken, onTokens, exact, listed, ended, walkOver, visitBy, visitsBy, onTokenBy, onTokensBy, walkBy}
+use Rattle.sublist_walk.specs.Walk.{part, among, Level, level, Walk, at, stuck, Walked, found, collect, push, visit, visits, arrived, onToken, onTokens, exact, listed, ended, walkOver, visitBy, visitsBy, onTokenBy, onTokensBy, walkBy}
 use Rattle.sublist_walk.specs.Holds.{Narrow, Leads, Says, HoldsBy, Holds}
 
 module _ {K : Type 0} (eq : K → K → Bool) where
@@ -324,8 +324,7 @@ module _ (limit : ℕ) (a : List ℕ) (n m : ℕ) (ts : List ℕ) where
   same-token : (w : Walk) (h : ℕ) → onTokenBy (childOf a n) limit a n m ts w h ≡ onToken limit a n m ts w h
   unfolding onTokenBy onToken
   same-token (at front list peak) h = ap (arrived limit a n m ts peak) (same-visits h (level [] list) front)
-  same-token tooWide h = refl
-  same-token broken h = refl
+  same-token (stuck why) h = refl
 
   same-tokens : (hs : List ℕ) (w : Walk) → onTokensBy (childOf a n) limit a n m ts w hs ≡ onTokens limit a n m ts w hs
   unfolding onTokensBy onTokens

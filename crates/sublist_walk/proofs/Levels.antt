@@ -9,10 +9,12 @@ use lib.Seq.{length-take-le, sets}
 use borrow.Author.Tests.{le-leb, lt-leb}
 use Rattle.sublist_area.specs.declared.Child.{Child}
 use Rattle.sublist_area.specs.Words.{word}
+use Rattle.sublist_walk.specs.declared.Failure.{Failure}
+use Rattle.sublist_walk.specs.declared.Failure.the-variants as failure
 use Rattle.sublist_walk.specs.declared.Front.{Front}
 use Rattle.sublist_walk.specs.declared.Collected.{Collected}
 use Rattle.sublist_walk.specs.declared.Step.{Step}
-use Rattle.sublist_walk.specs.Walk.{part, Level, level, wide, damaged, collect, push}
+use Rattle.sublist_walk.specs.Walk.{part, Level, level, broken, collect, push}
 use Rattle.sublist_walk.specs.Told.{fronted, within, Listed, Lists, Reaches}
 use Rattle.sublist_walk.specs.declared.Front.the-variants as front
 use Rattle.sublist_walk.specs.declared.Collected.the-variants as collected
@@ -29,7 +31,7 @@ module _ (a ts : List ℕ) (m f i p start count : ℕ) (e : p ≡ i) (s : start 
   count-word : word a i (f + 1) ≡ count
   count-word = rw (t, e, add-assoc (i * 16) f 1)
 
-  pub collect-outside : m < start + count → collect a m ts f i (level [] []) ≡ damaged
+  pub collect-outside : m < start + count → collect a m ts f i (level [] []) ≡ broken failure.Damaged
   unfolding collect
   collect-outside h = rw (start-word, count-word, lt-leb (start + count) m h)
 
@@ -47,13 +49,9 @@ module _ (a ts : List ℕ) (m f i p start count : ℕ) (e : p ≡ i) (s : start 
 -- the literal child, then the `*` child: k is the limit, and k2 the limit as the second call names it
 module _ (k : ℕ) (to to1 : List ℕ) (n : ℕ) (lit star c1 : Child) (d1 : c1 ≡ lit) (r1 : Front)
     (s1 : fronted r1 to1 ≡ push k (level (take n to) []) c1) where
-  pub first-wide : r1 ≡ front.Wide → (l : List ℕ) → fronted front.Wide l ≡ push k (push k (level (take n to) []) lit) star
+  pub first-failed : (why : Failure) → r1 ≡ front.Failed why → (l : List ℕ) → fronted (front.Failed why) l ≡ push k (push k (level (take n to) []) lit) star
   unfolding fronted push
-  first-wide e l = rw (← d1, ← s1, e)
-
-  pub first-damaged : r1 ≡ front.Damaged → (l : List ℕ) → fronted front.Damaged l ≡ push k (push k (level (take n to) []) lit) star
-  unfolding fronted push
-  first-damaged e l = rw (← d1, ← s1, e)
+  first-failed why e l = rw (← d1, ← s1, e)
 
   pub second : (x : ℕ) → r1 ≡ front.Upto x → (c2 : Child) → c2 ≡ star → (k2 : ℕ) → k2 ≡ k → (r2 : Front) (to2 : List ℕ) → fronted r2 to2 ≡ push k2 (level (take x to1) []) c2
       → fronted r2 to2 ≡ push k (push k (level (take n to) []) lit) star
@@ -68,26 +66,19 @@ pub fronted-upto : (r : Front) (x : ℕ) (l : List ℕ) → r ≡ front.Upto x �
 unfolding fronted
 fronted-upto r x l e = rw e
 
-pub fronted-wide : (r : Front) (l : List ℕ) → r ≡ front.Wide → fronted r l ≡ wide
+pub fronted-failed : (r : Front) (why : Failure) (l : List ℕ) → r ≡ front.Failed why → fronted r l ≡ broken why
 unfolding fronted
-fronted-wide r l e = rw e
-
-pub fronted-damaged : (r : Front) (l : List ℕ) → r ≡ front.Damaged → fronted r l ≡ damaged
-unfolding fronted
-fronted-damaged r l e = rw e
+fronted-failed r why l e = rw e
 
 pub lists-upto : (r : Collected) (size : ℕ) (out after : List ℕ) (at nodes : ℕ) (s : Level) → r ≡ collected.Upto size → Lists r out after at nodes s → Listed s [] at size nodes out after
 lists-upto r size out after at nodes s e h = rw e at h
 
-pub lists-damaged : (r : Collected) (out after : List ℕ) (at nodes : ℕ) (s : Level) → r ≡ collected.Damaged → Lists r out after at nodes s → s ≡ damaged
+pub lists-damaged : (r : Collected) (out after : List ℕ) (at nodes : ℕ) (s : Level) → r ≡ collected.Damaged → Lists r out after at nodes s → s ≡ broken failure.Damaged
 lists-damaged r out after at nodes s e h = rw e at h
 
 module _ (r : Step) (to out after : List ℕ) (at nodes : ℕ) (s : Level) (h : Reaches r to out after at nodes s) where
   pub reaches-on : (n size : ℕ) → r ≡ step.On n size → (n ≤ length to) × Listed s (take n to) at size nodes out after
   reaches-on n size e = rw e at h
 
-  pub reaches-wide : r ≡ step.Wide → s ≡ wide
-  reaches-wide e = rw e at h
-
-  pub reaches-damaged : r ≡ step.Damaged → s ≡ damaged
-  reaches-damaged e = rw e at h
+  pub reaches-failed : (why : Failure) → r ≡ step.Failed why → s ≡ broken why
+  reaches-failed why e = rw e at h

@@ -1,13 +1,12 @@
 -- Laws of the walk over an area.
 pub mod Parts
-pub mod Hashing
 pub mod Pushes
 pub mod Levels
 pub mod Lending
 pub mod Visits
 pub mod Walks
-pub mod Writing
 pub mod Narrow
+pub mod Writing
 pub mod Frontiers
 pub mod Held
 pub mod Outputs

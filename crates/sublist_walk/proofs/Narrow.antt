@@ -11,35 +11,36 @@ use Rattle.subject.specs.Choice.{pick}
 use Rattle.sublist_area.specs.declared.Child.{Child}
 use Rattle.sublist_area.specs.declared.Child.the-variants.{Node, Missing, Damaged}
 use Rattle.sublist_area.specs.Words.{literalChild, starChild}
-use Rattle.sublist_walk.specs.Walk.{among, Level, level, wide, damaged, Walk, at, tooWide, broken, Walked, found, failed, collect, push, visit, visits, arrived, onToken, onTokens, exact, listed, ended, walkOver}
+use Rattle.sublist_walk.specs.declared.Failure.the-variants as failure
+use Rattle.sublist_walk.specs.Walk.{among, Level, level, broken, Walk, at, stuck, Walked, found, failed, collect, push, visit, visits, arrived, onToken, onTokens, exact, listed, ended, walkOver}
 use Rattle.sublist_walk.proofs.Visits.{exact-any}
 
 -- t is s, unless s passed its limit
 abbrev Kept : Level → Level → Type 0
 Kept (level next list) t = t ≡ level next list
-Kept wide t = Unit {0}
-Kept damaged t = t ≡ damaged
+Kept (broken failure.Wide) t = Unit {0}
+Kept (broken failure.Damaged) t = t ≡ broken failure.Damaged
 
 abbrev KeptWalk : Walk → Walk → Type 0
 KeptWalk (at front list peak) v = v ≡ at front list peak
-KeptWalk tooWide v = Unit {0}
-KeptWalk broken v = v ≡ broken
+KeptWalk (stuck failure.Wide) v = Unit {0}
+KeptWalk (stuck failure.Damaged) v = v ≡ stuck failure.Damaged
 
 abbrev KeptEnd : Walked → Walked → Type 0
 KeptEnd (found list peak) v = v ≡ found list peak
-KeptEnd (failed true) v = Unit {0}
-KeptEnd (failed false) v = v ≡ failed false
+KeptEnd (failed failure.Wide) v = Unit {0}
+KeptEnd (failed failure.Damaged) v = v ≡ failed failure.Damaged
 
 kept-same : (s : Level) → Kept s s
 kept-same (level next list) = refl
-kept-same wide = tt
-kept-same damaged = refl
+kept-same (broken failure.Wide) = tt
+kept-same (broken failure.Damaged) = refl
 
 collect-kept : (a : List ℕ) (m : ℕ) (ts : List ℕ) (f i : ℕ) (s t : Level) → Kept s t → Kept (collect a m ts f i s) (collect a m ts f i t)
 unfolding collect
 collect-kept a m ts f i (level next list) t e = rw e (kept-same (collect a m ts f i (level next list)))
-collect-kept a m ts f i wide t e = tt
-collect-kept a m ts f i damaged t e = rw e refl
+collect-kept a m ts f i (broken failure.Wide) t e = tt
+collect-kept a m ts f i (broken failure.Damaged) t e = rw e refl
 
 module _ (k l : ℕ) (small : k ≤ l) where
   push-kept : (s t : Level) (c : Child) → Kept s t → Kept (push k s c) (push l t c)
@@ -47,14 +48,15 @@ module _ (k l : ℕ) (small : k ≤ l) where
   push-kept (level next list) t (Node j) e = rw e (go (among j next) (ltb (length next) k) refl)
     where
       go : (b d : Bool) → ltb (length next) k ≡ d
-          → Kept (pick b (level next list) (pick d (level (next ++ j ∷ []) list) wide)) (pick b (level next list) (pick (ltb (length next) l) (level (next ++ j ∷ []) list) wide))
+          → Kept (pick b (level next list) (pick d (level (next ++ j ∷ []) list) (broken failure.Wide)))
+          (pick b (level next list) (pick (ltb (length next) l) (level (next ++ j ∷ []) list) (broken failure.Wide)))
       go true d q = refl
       go false true q = rw (lt-ltb (length next) l (omega (arith, ltb-true (length next) k q))) refl
       go false false q = tt
   push-kept (level next list) t (Missing link) e = rw e refl
   push-kept (level next list) t Damaged e = rw e refl
-  push-kept wide t c e = tt
-  push-kept damaged t c e = rw e refl
+  push-kept (broken failure.Wide) t c e = tt
+  push-kept (broken failure.Damaged) t c e = rw e refl
 
   module _ (a : List ℕ) (n m : ℕ) (ts : List ℕ) where
     visit-kept : (h : ℕ) (s t : Level) (i : ℕ) → Kept s t → Kept (visit k a n m ts h s i) (visit l a n m ts h t i)
@@ -71,15 +73,15 @@ module _ (k l : ℕ) (small : k ≤ l) where
     arrived-kept : (peak : ℕ) (s t : Level) → Kept s t → KeptWalk (arrived k a n m ts peak s) (arrived l a n m ts peak t)
     unfolding arrived
     arrived-kept peak (level next list) t e = rw e refl
-    arrived-kept peak wide t e = tt
-    arrived-kept peak damaged t e = rw e refl
+    arrived-kept peak (broken failure.Wide) t e = tt
+    arrived-kept peak (broken failure.Damaged) t e = rw e refl
 
     token-kept : (w v : Walk) (h : ℕ) → KeptWalk w v → KeptWalk (onToken k a n m ts w h) (onToken l a n m ts v h)
     unfolding onToken
     token-kept (at front list peak) v h e =
         rw e (arrived-kept peak (visits k a n m ts h (level [] list) front) (visits l a n m ts h (level [] list) front) (visits-kept h (level [] list) (level [] list) front refl))
-    token-kept tooWide v h e = tt
-    token-kept broken v h e = rw e refl
+    token-kept (stuck failure.Wide) v h e = tt
+    token-kept (stuck failure.Damaged) v h e = rw e refl
 
     tokens-kept : (w v : Walk) (hs : List ℕ) → KeptWalk w v → KeptWalk (onTokens k a n m ts w hs) (onTokens l a n m ts v hs)
     unfolding onTokens
@@ -89,23 +91,23 @@ module _ (k l : ℕ) (small : k ≤ l) where
     listed-kept : (peak : ℕ) (s : Level) → KeptEnd (listed k a n m ts peak s) (listed l a n m ts peak s)
     unfolding listed
     listed-kept peak (level next list) = refl
-    listed-kept peak wide = tt
-    listed-kept peak damaged = refl
+    listed-kept peak (broken failure.Wide) = tt
+    listed-kept peak (broken failure.Damaged) = refl
 
     ended-kept : (w v : Walk) → KeptWalk w v → KeptEnd (ended k a n m ts w) (ended l a n m ts v)
     unfolding ended
     ended-kept (at front list peak) v e =
         rw (e, exact-any k a n m ts (level [] list) front, exact-any l a n m ts (level [] list) front) (listed-kept peak (exact 0 a 0 m ts (level [] list) front))
-    ended-kept tooWide v e = tt
-    ended-kept broken v e = rw e refl
+    ended-kept (stuck failure.Wide) v e = tt
+    ended-kept (stuck failure.Damaged) v e = rw e refl
 
-    pub narrow : (hs : List ℕ) → (walkOver k a n m ts hs ≡ failed true → ⊥) → walkOver l a n m ts hs ≡ walkOver k a n m ts hs
+    pub narrow : (hs : List ℕ) → (walkOver k a n m ts hs ≡ failed failure.Wide → ⊥) → walkOver l a n m ts hs ≡ walkOver k a n m ts hs
     unfolding walkOver
     narrow hs never =
         go (ended k a n m ts (onTokens k a n m ts (at (0 ∷ []) [] 1) hs)) never
         (ended-kept (onTokens k a n m ts (at (0 ∷ []) [] 1) hs) (onTokens l a n m ts (at (0 ∷ []) [] 1) hs) (tokens-kept (at (0 ∷ []) [] 1) (at (0 ∷ []) [] 1) hs refl))
       where
-        go : (w : Walked) → (w ≡ failed true → ⊥) → KeptEnd w (ended l a n m ts (onTokens l a n m ts (at (0 ∷ []) [] 1) hs)) → ended l a n m ts (onTokens l a n m ts (at (0 ∷ []) [] 1) hs) ≡ w
+        go : (w : Walked) → (w ≡ failed failure.Wide → ⊥) → KeptEnd w (ended l a n m ts (onTokens l a n m ts (at (0 ∷ []) [] 1) hs)) → ended l a n m ts (onTokens l a n m ts (at (0 ∷ []) [] 1) hs) ≡ w
         go (found list peak) f e = e
-        go (failed true) f e = absurd (f refl)
-        go (failed false) f e = e
+        go (failed failure.Wide) f e = absurd (f refl)
+        go (failed failure.Damaged) f e = e

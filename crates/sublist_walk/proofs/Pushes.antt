@@ -14,6 +14,7 @@ use borrow.Author.Tests.{lt-ltb, le-ltb}
 use Rattle.sublist_area.proofs.Child.{the-type}
 use Rattle.sublist_area.specs.declared.Child.{Child}
 use Rattle.sublist_area.specs.declared.Child.the-variants.{Node, Missing, Damaged}
+use Rattle.sublist_walk.specs.declared.Failure.the-variants as failure
 use Rattle.sublist_walk.specs.declared.Front.{Front}
 use Rattle.sublist_walk.specs.Walk.{among, level, push}
 use Rattle.sublist_walk.specs.Told.{missed, fronted, within}
@@ -42,6 +43,6 @@ module _ (l : List ℕ) (n : ℕ) (h : n ≤ length l) (c : Child) where
       unfolding fronted push
       push-new k = rw (e, ← a, length-take-le n l h, lt-ltb n (length l) k, add-one, take-suc-set l n j k)
 
-      pub push-wide : length l ≤ n → (x : List ℕ) → fronted front.Wide x ≡ push (length l) (level (take n l) []) c
+      pub push-wide : length l ≤ n → (x : List ℕ) → fronted (front.Failed failure.Wide) x ≡ push (length l) (level (take n l) []) c
       unfolding fronted push
       push-wide k x = rw (e, ← a, length-take-le n l h, le-ltb n (length l) k)

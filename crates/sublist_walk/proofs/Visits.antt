@@ -12,7 +12,9 @@ use Rattle.subject.specs.Choice.{pick}
 use Rattle.sublist_area.specs.declared.Child.{Child}
 use Rattle.sublist_area.specs.declared.Child.the-variants.{Node, Missing, Damaged}
 use Rattle.sublist_area.specs.Words.{word, literalChild, starChild}
-use Rattle.sublist_walk.specs.Walk.{part, among, Level, level, wide, damaged, collect, push, visit, visits, exact}
+use Rattle.sublist_walk.specs.declared.Failure.{Failure}
+use Rattle.sublist_walk.specs.declared.Failure.the-variants as failure
+use Rattle.sublist_walk.specs.Walk.{part, among, Level, level, broken, collect, push, visit, visits, exact}
 use Rattle.sublist_walk.specs.Told.{Listed}
 use Rattle.sublist_walk.proofs.Parts.{sets-append}
 
@@ -34,8 +36,7 @@ joined s s1 s2 next next1 at size size1 i j out now after w v e = record {
 -- a level whose list comes behind another
 unfoldable behind : List ℕ → Level → Level
 behind l (level next list) = level next (l ++ list)
-behind l wide = wide
-behind l damaged = damaged
+behind l (broken why) = broken why
 
 behind-pick : (l : List ℕ) (t : Bool) (x y : Level) → behind l (pick t x y) ≡ pick t (behind l x) (behind l y)
 behind-pick l true x y = refl
@@ -44,29 +45,28 @@ behind-pick l false x y = refl
 behind-append : (l r : List ℕ) (s : Level) → behind (l ++ r) s ≡ behind l (behind r s)
 unfolding behind
 behind-append l r (level next list) = rw (append-assoc l r list)
-behind-append l r wide = refl
-behind-append l r damaged = refl
+behind-append l r (broken why) = refl
 
 push-behind : (k : ℕ) (l : List ℕ) (s : Level) (c : Child) → push k (behind l s) c ≡ behind l (push k s c)
 unfolding behind push
 push-behind k l (level next list) (Node j) =
-    sym (behind-pick l (among j next) (level next list) (pick (ltb (length next) k) (level (next ++ j ∷ []) list) wide)
-    ∙ ap (pick (among j next) (level next (l ++ list))) (behind-pick l (ltb (length next) k) (level (next ++ j ∷ []) list) wide))
+    sym (behind-pick l (among j next) (level next list) (pick (ltb (length next) k) (level (next ++ j ∷ []) list) (broken failure.Wide))
+    ∙ ap (pick (among j next) (level next (l ++ list))) (behind-pick l (ltb (length next) k) (level (next ++ j ∷ []) list) (broken failure.Wide)))
 push-behind k l (level next list) (Missing link) = refl
 push-behind k l (level next list) Damaged = refl
-push-behind k l wide c = refl
-push-behind k l damaged c = refl
+push-behind k l (broken why) c = refl
 
 -- what a node's words say does not hang on the level so far
 module _ (a : List ℕ) (m : ℕ) (ts : List ℕ) (f i : ℕ) where
-  outside-too : (next list : List ℕ) → collect a m ts f i (level [] []) ≡ damaged → collect a m ts f i (level next list) ≡ damaged
+  outside-too : (next list : List ℕ) → collect a m ts f i (level [] []) ≡ broken failure.Damaged → collect a m ts f i (level next list) ≡ broken failure.Damaged
   unfolding collect
   outside-too next list e = go (leb (word a i f + word a i (f + 1)) m) e
     where
       new : List ℕ
       new = part ts (word a i f) (word a i (f + 1))
 
-      go : (t : Bool) → pick t (level [] ([] ++ new)) damaged ≡ damaged → pick t (level next (list ++ new)) damaged ≡ damaged
+      go : (t : Bool) → pick t (level [] ([] ++ new)) (broken failure.Damaged) ≡ broken failure.Damaged
+          → pick t (level next (list ++ new)) (broken failure.Damaged) ≡ broken failure.Damaged
       go true w = let z : _≡_ {A = ℕ} 0 1 = cc in absurd (omega arith)
       go false w = refl
 
@@ -77,21 +77,21 @@ module _ (a : List ℕ) (m : ℕ) (ts : List ℕ) (f i : ℕ) where
       now : List ℕ
       now = part ts (word a i f) (word a i (f + 1))
 
-      go : (t : Bool) → pick t (level [] ([] ++ now)) damaged ≡ level [] new → pick t (level next (list ++ now)) damaged ≡ level next (list ++ new)
+      go : (t : Bool) → pick t (level [] ([] ++ now)) (broken failure.Damaged) ≡ level [] new
+          → pick t (level next (list ++ now)) (broken failure.Damaged) ≡ level next (list ++ new)
       go true w = cc
       go false w = let z : _≡_ {A = ℕ} 0 1 = cc in absurd (omega arith)
 
   collect-behind : (next list : List ℕ) → collect a m ts f i (level next list) ≡ behind list (collect a m ts f i (level next []))
   unfolding collect behind
   collect-behind next list =
-      sym (behind-pick list (leb (word a i f + word a i (f + 1)) m) (level next ([] ++ part ts (word a i f) (word a i (f + 1)))) damaged)
+      sym (behind-pick list (leb (word a i f + word a i (f + 1)) m) (level next ([] ++ part ts (word a i f) (word a i (f + 1)))) (broken failure.Damaged))
 
   collect-through : (l : List ℕ) (s : Level) → collect a m ts f i (behind l s) ≡ behind l (collect a m ts f i s)
   unfolding collect behind
   collect-through l (level next list) =
       collect-behind next (l ++ list) ∙ behind-append l list (collect a m ts f i (level next [])) ∙ ap (behind l) (sym (collect-behind next list))
-  collect-through l wide = refl
-  collect-through l damaged = refl
+  collect-through l (broken why) = refl
 
 -- a frontier's first i nodes, the next one, and those behind it
 nodes-split : (l : List ℕ) (i c : ℕ) → i < c → c ≤ length l → take c l ≡ take i l ++ getD l i 0 ∷ drop (suc i) (take c l)
@@ -100,7 +100,7 @@ nodes-split l i c q r = split-at (take c l) i 0 (rw (length-take-le c l r) q) �
 module _ (k : ℕ) (a : List ℕ) (n m : ℕ) (ts : List ℕ) (h : ℕ) where
   -- one node, from a frontier with nothing listed: `made` is what its children make of the frontier
   module _ (next : List ℕ) (i : ℕ) where
-    pub visit-outside : collect a m ts 6 i (level [] []) ≡ damaged → visit k a n m ts h (level next []) i ≡ damaged
+    pub visit-outside : collect a m ts 6 i (level [] []) ≡ broken failure.Damaged → visit k a n m ts h (level next []) i ≡ broken failure.Damaged
     unfolding visit push
     visit-outside e = rw (outside-too a m ts 6 i next [] e)
 
@@ -113,13 +113,9 @@ module _ (k : ℕ) (a : List ℕ) (n m : ℕ) (ts : List ℕ) (h : ℕ) where
           (rw append-nil at (ap (λ s. push k s (starChild a n i)) (push-behind k (w .list) (level next []) (literalChild a n i h))
           ∙ push-behind k (w .list) (push k (level next []) (literalChild a n i h)) (starChild a n i)))
 
-      pub visit-wide : made ≡ wide → visit k a n m ts h (level next []) i ≡ wide
+      pub visit-failed : (why : Failure) → made ≡ broken why → visit k a n m ts h (level next []) i ≡ broken why
       unfolding behind
-      visit-wide e = visit-behind ∙ rw e
-
-      pub visit-damaged : made ≡ damaged → visit k a n m ts h (level next []) i ≡ damaged
-      unfolding behind
-      visit-damaged e = visit-behind ∙ rw e
+      visit-failed why e = visit-behind ∙ rw e
 
       pub visit-on : (next1 : List ℕ) → made ≡ level next1 [] → Listed (visit k a n m ts h (level next []) i) next1 at size 1 out after
       unfolding behind
@@ -144,8 +140,7 @@ module _ (k : ℕ) (a : List ℕ) (n m : ℕ) (ts : List ℕ) (h : ℕ) where
   unfolding visit collect push behind
   visit-through-all l (level next list) i =
       visit-through next (l ++ list) i ∙ behind-append l list (visit k a n m ts h (level next []) i) ∙ ap (behind l) (sym (visit-through next list i))
-  visit-through-all l wide i = refl
-  visit-through-all l damaged i = refl
+  visit-through-all l (broken why) i = refl
 
   visits-through : (l : List ℕ) (s : Level) (is : List ℕ) → visits k a n m ts h (behind l s) is ≡ behind l (visits k a n m ts h s is)
   unfolding visits
@@ -158,13 +153,9 @@ module _ (k : ℕ) (a : List ℕ) (n m : ℕ) (ts : List ℕ) (h : ℕ) where
 
   -- a whole frontier, behind a list
   module _ (list is : List ℕ) where
-    pub all-wide : visits k a n m ts h (level [] []) is ≡ wide → visits k a n m ts h (level [] list) is ≡ wide
+    pub all-failed : (why : Failure) → visits k a n m ts h (level [] []) is ≡ broken why → visits k a n m ts h (level [] list) is ≡ broken why
     unfolding behind
-    all-wide e = visits-with list is ∙ rw e
-
-    pub all-damaged : visits k a n m ts h (level [] []) is ≡ damaged → visits k a n m ts h (level [] list) is ≡ damaged
-    unfolding behind
-    all-damaged e = visits-with list is ∙ rw e
+    all-failed why e = visits-with list is ∙ rw e
 
     pub all-on : (next new : List ℕ) → visits k a n m ts h (level [] []) is ≡ level next new → visits k a n m ts h (level [] list) is ≡ level next (list ++ new)
     unfolding behind
@@ -175,15 +166,10 @@ module _ (k : ℕ) (a : List ℕ) (n m : ℕ) (ts : List ℕ) (h : ℕ) where
   visits-append s [] js = refl
   visits-append s (i ∷ is) js = visits-append (visit k a n m ts h s i) is js
 
-  pub visits-wide : (is : List ℕ) → visits k a n m ts h wide is ≡ wide
+  visits-failed : (why : Failure) (is : List ℕ) → visits k a n m ts h (broken why) is ≡ broken why
   unfolding visits visit collect push
-  visits-wide [] = refl
-  visits-wide (i ∷ is) = visits-wide is
-
-  pub visits-damaged : (is : List ℕ) → visits k a n m ts h damaged is ≡ damaged
-  unfolding visits visit collect push
-  visits-damaged [] = refl
-  visits-damaged (i ∷ is) = visits-damaged is
+  visits-failed why [] = refl
+  visits-failed why (i ∷ is) = visits-failed why is
 
   -- the first i nodes of a frontier give a level; then the next one
   module _ (l next : List ℕ) (at size i : ℕ) (out now : List ℕ)
@@ -211,13 +197,10 @@ module _ (k : ℕ) (a : List ℕ) (n m : ℕ) (ts : List ℕ) (h : ℕ) where
           ∙ ap (λ s. visits k a n m ts h (visit k a n m ts h s (getD l i 0)) (drop (suc i) (take c l))) (w .is)
           ∙ ap (λ s. visits k a n m ts h s (drop (suc i) (take c l))) (visit-through next (w .list) (getD l i 0))
 
-      pub next-wide : (k1 : ℕ) → k1 ≡ k → (lent : List ℕ) → lent ≡ next → (j : ℕ) → j ≡ getD l i 0 → visit k1 a n m ts h (level lent []) j ≡ wide → visits k a n m ts h (level [] []) (take c l) ≡ wide
+      pub next-failed : (k1 : ℕ) → k1 ≡ k → (lent : List ℕ) → lent ≡ next → (j : ℕ) → j ≡ getD l i 0 → (why : Failure)
+          → visit k1 a n m ts h (level lent []) j ≡ broken why → visits k a n m ts h (level [] []) (take c l) ≡ broken why
       unfolding behind
-      next-wide k1 g lent f j d e = visits-split ∙ rw (rw (g, f, d) at e) (visits-wide (drop (suc i) (take c l)))
-
-      pub next-damaged : (k1 : ℕ) → k1 ≡ k → (lent : List ℕ) → lent ≡ next → (j : ℕ) → j ≡ getD l i 0 → visit k1 a n m ts h (level lent []) j ≡ damaged → visits k a n m ts h (level [] []) (take c l) ≡ damaged
-      unfolding behind
-      next-damaged k1 g lent f j d e = visits-split ∙ rw (rw (g, f, d) at e) (visits-damaged (drop (suc i) (take c l)))
+      next-failed k1 g lent f j d why e = visits-split ∙ rw (rw (g, f, d) at e) (visits-failed why (drop (suc i) (take c l)))
 
 module _ (k : ℕ) (a : List ℕ) (n m : ℕ) (ts : List ℕ) where
   exact-append : (s : Level) (is js : List ℕ) → exact k a n m ts s (is ++ js) ≡ exact k a n m ts (exact k a n m ts s is) js
@@ -225,10 +208,10 @@ module _ (k : ℕ) (a : List ℕ) (n m : ℕ) (ts : List ℕ) where
   exact-append s [] js = refl
   exact-append s (i ∷ is) js = exact-append (collect a m ts 4 i s) is js
 
-  exact-damaged : (is : List ℕ) → exact k a n m ts damaged is ≡ damaged
+  exact-broken : (why : Failure) (is : List ℕ) → exact k a n m ts (broken why) is ≡ broken why
   unfolding exact collect
-  exact-damaged [] = refl
-  exact-damaged (i ∷ is) = exact-damaged is
+  exact-broken why [] = refl
+  exact-broken why (i ∷ is) = exact-broken why is
 
   -- neither limit nor node count matters
   pub exact-any : (s : Level) (is : List ℕ) → exact k a n m ts s is ≡ exact 0 a 0 m ts s is
@@ -251,7 +234,7 @@ module _ (k : ℕ) (a : List ℕ) (n m : ℕ) (ts : List ℕ) where
     unfolding behind
     exact-listed new e = exact-with list is ∙ rw e
 
-    pub exact-failed : exact k a n m ts (level [] []) is ≡ damaged → exact k a n m ts (level [] list) is ≡ damaged
+    pub exact-failed : exact k a n m ts (level [] []) is ≡ broken failure.Damaged → exact k a n m ts (level [] list) is ≡ broken failure.Damaged
     unfolding behind
     exact-failed e = exact-with list is ∙ rw e
 
@@ -264,11 +247,12 @@ module _ (k : ℕ) (a : List ℕ) (n m : ℕ) (ts : List ℕ) where
         joined _ _ _ [] [] at size size1 i 1 out now after w v
         (rw (add-one i, take-suc l i 0 q, exact-append (level [] []) (take i l) (getD l i 0 ∷ []), w .is) (collect-new a m ts 4 (getD l i 0) [] (w .list) (v .list) (v .is)))
 
-    pub exact-outside : (c : ℕ) → i < c → c ≤ length l → collect a m ts 4 (getD l i 0) (level [] []) ≡ damaged → exact k a n m ts (level [] []) (take c l) ≡ damaged
+    pub exact-outside : (c : ℕ) → i < c → c ≤ length l → collect a m ts 4 (getD l i 0) (level [] []) ≡ broken failure.Damaged
+        → exact k a n m ts (level [] []) (take c l) ≡ broken failure.Damaged
     unfolding exact
     exact-outside c q r e =
         ap (exact k a n m ts (level [] [])) (nodes-split l i c q r)
         ∙ exact-append (level [] []) (take i l) (getD l i 0 ∷ drop (suc i) (take c l))
         ∙ ap (λ s. exact k a n m ts (collect a m ts 4 (getD l i 0) s) (drop (suc i) (take c l))) (w .is)
         ∙ ap (λ s. exact k a n m ts s (drop (suc i) (take c l))) (outside-too a m ts 4 (getD l i 0) [] (w .list) e)
-        ∙ exact-damaged (drop (suc i) (take c l))
+        ∙ exact-broken failure.Damaged (drop (suc i) (take c l))

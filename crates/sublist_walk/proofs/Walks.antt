@@ -2,18 +2,28 @@
 use Prim.Native.Nat.{ℕ, _+_, _-_, _*_, _≤_, _<_, max}
 use native.Mathlib.Omega.{arith}
 use mathlib.Core.Path.{_≡_, refl, sym, _∙_}
-use mathlib.Core.Bool.{true, false}
+use mathlib.Core.Bool.{Bool, true, false}
 use mathlib.Core.List.{List, [], _∷_, _++_, map}
+use lib.Dec.{leb}
 use lib.ListN.{length, take, set, length-append}
 use lib.Seq.{take-suc-set, sets}
+use borrow.Author.Tests.{leb-true, leb-false}
+use Rattle.subject.specs.Choice.{pick}
 use Rattle.subject.specs.Text.{tokens}
+use Rattle.subject.specs.declared.Token.{Token}
+use Rattle.subject.specs.declared.Token.the-variants.{Part, End}
 use Rattle.subject.specs.Fnv.{fnv}
-use Rattle.subject.specs.Reading.{dotFrom, tokensFrom}
-use Rattle.subject.proofs.Positions.{tokens-start, tokens-next, tokens-end}
-use Rattle.sublist_walk.specs.Walk.{part, level, wide, damaged, at, tooWide, broken, Walked, failed, visits, arrived, onToken, onTokens, exact, listed, ended, walkOver}
-use Rattle.sublist_walk.specs.Told.{Listed, Finds}
+use Rattle.subject.specs.Reading.{dotFrom, tokensFrom, tokenAt}
+use Rattle.subject.proofs.Positions.{dot-from, dot-within, tokens-start, tokens-next, tokens-end}
+use Rattle.sublist_walk.specs.Walk.{part, level, broken, at, stuck, Walked, failed, visits, arrived, onToken, onTokens, exact, listed, ended, walkOver}
+use Rattle.sublist_walk.specs.declared.Failure.{Failure}
+use Rattle.sublist_walk.specs.declared.Failure.the-variants as failure
+use Rattle.sublist_walk.specs.declared.Collected.{Collected}
+use Rattle.sublist_walk.specs.declared.Collected.the-variants as collected
+use Rattle.sublist_walk.specs.declared.Walked as declared
+use Rattle.sublist_walk.specs.Told.{Listed, Lists, Finds, Ends, finished}
 use Rattle.sublist_walk.proofs.Parts.{sets-behind}
-use Rattle.sublist_walk.proofs.Visits.{all-wide, all-damaged, all-on, exact-any, exact-listed, exact-failed}
+use Rattle.sublist_walk.proofs.Visits.{all-failed, all-on, exact-any, exact-listed, exact-failed}
 
 -- a frontier, and the list and the peak so far: with the hashes left the walk ends with w. The place in the subject bounds the list's size: 2^42 for each token passed
 pub record Under (w : Walked) (k : ℕ) (a : List ℕ) (n m : ℕ) (ts front : List ℕ) (peak size place : ℕ) (hs out now : List ℕ) : Type 0 where
@@ -23,13 +33,39 @@ pub record Under (w : Walked) (k : ℕ) (a : List ℕ) (n m : ℕ) (ts front : L
   pub most : size ≤ place * 4398046511104
   pub stored : now ≡ sets out 0 list
 
--- the hashes left from a place on
-pub hashes-next : (subject : List ℕ) (place end h : ℕ) → end ≡ dotFrom subject place → h ≡ fnv (part subject place (end - place)) → place ≤ length subject
-    → map fnv (tokensFrom subject place) ≡ h ∷ map fnv (tokensFrom subject (end + 1))
-hashes-next subject place end h e f l = rw (f, e, tokens-next subject place l)
+-- the token at a place, and the hashes left from there on
+module _ (subject : List ℕ) (place : ℕ) (r : Token) (e : r ≡ tokenAt subject place) where
+  module _ (start end next : ℕ) (f : r ≡ Part start end next) where
+    token-is : (start ≡ place) × (end ≡ dotFrom subject place) × (next ≡ dotFrom subject place + 1) × (place ≤ length subject)
+    unfolding tokenAt
+    token-is = go (leb place (length subject)) refl (sym e ∙ f)
+      where
+        go : (b : Bool) → leb place (length subject) ≡ b → pick b (Part place (dotFrom subject place) (dotFrom subject place + 1)) End ≡ Part start end next
+            → (start ≡ place) × (end ≡ dotFrom subject place) × (next ≡ dotFrom subject place + 1) × (place ≤ length subject)
+        go true l q =
+            let x : start ≡ place = cc in
+            let y : end ≡ dotFrom subject place = cc in
+            let z : next ≡ dotFrom subject place + 1 = cc in
+            (x, y, z, leb-true place (length subject) l)
+        go false l q = let z : _≡_ {A = ℕ} 0 1 = cc in absurd (omega arith)
 
-pub hashes-end : (subject : List ℕ) (place : ℕ) → length subject < place → map fnv (tokensFrom subject place) ≡ []
-hashes-end subject place h = rw (tokens-end subject place h)
+    pub token-bounds : (start ≤ end) × (end ≤ length subject) × (place < next) × (next ≤ length subject + 1)
+    token-bounds =
+        let t = token-is in
+        let l = dot-from subject place in
+        let m = dot-within subject place (t .3) in
+        (omega (arith, t, l), omega (arith, t, m), omega (arith, t, l), omega (arith, t, m))
+
+    pub hashes-next : (h : ℕ) → h ≡ fnv (part subject start (end - start)) → map fnv (tokensFrom subject place) ≡ h ∷ map fnv (tokensFrom subject next)
+    hashes-next h g = let t = token-is in rw (g, t .0, t .1, t .2, tokens-next subject place (t .3))
+
+  pub hashes-end : r ≡ End → map fnv (tokensFrom subject place) ≡ []
+  unfolding tokenAt
+  hashes-end f = rw (tokens-end subject place (go (leb place (length subject)) refl (sym e ∙ f)))
+    where
+      go : (b : Bool) → leb place (length subject) ≡ b → pick b (Part place (dotFrom subject place) (dotFrom subject place + 1)) End ≡ End → length subject < place
+      go true l q = let z : _≡_ {A = ℕ} 0 1 = cc in absurd (omega arith)
+      go false l q = leb-false place (length subject) l
 
 module _ (k : ℕ) (a : List ℕ) (n m : ℕ) (ts : List ℕ) where
   -- the root alone
@@ -44,15 +80,10 @@ module _ (k : ℕ) (a : List ℕ) (n m : ℕ) (ts : List ℕ) where
     stored = refl;
   }
 
-  tokens-wide : (hs : List ℕ) → onTokens k a n m ts tooWide hs ≡ tooWide
+  tokens-stuck : (why : Failure) (hs : List ℕ) → onTokens k a n m ts (stuck why) hs ≡ stuck why
   unfolding onTokens onToken
-  tokens-wide [] = refl
-  tokens-wide (h ∷ hs) = tokens-wide hs
-
-  tokens-broken : (hs : List ℕ) → onTokens k a n m ts broken hs ≡ broken
-  unfolding onTokens onToken
-  tokens-broken [] = refl
-  tokens-broken (h ∷ hs) = tokens-broken hs
+  tokens-stuck why [] = refl
+  tokens-stuck why (h ∷ hs) = tokens-stuck why hs
 
   -- no frontier, no change
   tokens-idle : (list : List ℕ) (peak : ℕ) (hs : List ℕ) → onTokens k a n m ts (at [] list peak) hs ≡ at [] list peak
@@ -78,11 +109,11 @@ module _ (k : ℕ) (a : List ℕ) (n m : ℕ) (ts : List ℕ) where
       unfolding onTokens ended
       last = rw none at (u .same)
 
-      pub ends-damaged : exact 0 a 0 m ts (level [] []) front ≡ damaged → w ≡ failed false
+      ends-damaged : exact 0 a 0 m ts (level [] []) front ≡ broken failure.Damaged → w ≡ failed failure.Damaged
       unfolding listed
       ends-damaged e = sym last ∙ rw (exact-failed k a n m ts (u .list) front (exact-any k a n m ts (level [] []) front ∙ e))
 
-      pub ends-found : (size1 i : ℕ) (after : List ℕ) → Listed (exact 0 a 0 m ts (level [] []) front) [] size size1 i now after → Finds w size1 peak out after
+      ends-found : (size1 i : ℕ) (after : List ℕ) → Listed (exact 0 a 0 m ts (level [] []) front) [] size size1 i now after → Finds w size1 peak out after
       unfolding listed
       ends-found size1 i after v = record {
         list = u .list ++ v .list;
@@ -91,6 +122,14 @@ module _ (k : ℕ) (a : List ℕ) (n m : ℕ) (ts : List ℕ) where
         stored = v .stored ∙ rw (u .sized, u .stored) (sym (sets-behind out (u .list) (v .list)));
       }
 
+      pub ends-by : (list : Collected) (i : ℕ) (after : List ℕ) → Lists list now after size i (exact 0 a 0 m ts (level [] []) front)
+          → (r : declared.Walked) → r ≡ finished list peak → Ends r out after w
+      ends-by list i after v r q = rw q (go list v)
+        where
+          go : (x : Collected) → Lists x now after size i (exact 0 a 0 m ts (level [] []) front) → Ends (finished x peak) out after w
+          go (collected.Upto size1) y = ends-found size1 i after y
+          go collected.Damaged y = ends-damaged y
+
     module _ (h : ℕ) (rest : List ℕ) (some : hs ≡ h ∷ rest) where
       next : ended k a n m ts (onTokens k a n m ts (arrived k a n m ts peak (visits k a n m ts h (level [] (u .list)) front)) rest) ≡ w
       unfolding onTokens onToken
@@ -98,13 +137,9 @@ module _ (k : ℕ) (a : List ℕ) (n m : ℕ) (ts : List ℕ) where
 
       -- limit and frontier as a call names them: k1 and front0
       module _ (k1 : ℕ) (g : k1 ≡ k) where
-        pub goes-wide : visits k1 a n m ts h (level [] []) front ≡ wide → w ≡ failed true
+        pub goes-wrong : (why : Failure) → visits k1 a n m ts h (level [] []) front ≡ broken why → w ≡ failed why
         unfolding arrived ended
-        goes-wide e = sym next ∙ rw (all-wide k a n m ts h (u .list) front (rw g at e), tokens-wide rest)
-
-        pub goes-damaged : visits k1 a n m ts h (level [] []) front ≡ damaged → w ≡ failed false
-        unfolding arrived ended
-        goes-damaged e = sym next ∙ rw (all-damaged k a n m ts h (u .list) front (rw g at e), tokens-broken rest)
+        goes-wrong why e = sym next ∙ rw (all-failed k a n m ts h (u .list) front why (rw g at e), tokens-stuck why rest)
 
         pub goes-on : (front0 front1 : List ℕ) → front0 ≡ front1 → (peak1 size1 place1 i : ℕ) (after : List ℕ) → Listed (visits k1 a n m ts h (level [] []) front) front0 size size1 i now after
             → peak1 ≡ max peak (length front1) → i ≤ 1024 → place < place1 → Under w k a n m ts front1 peak1 size1 place1 rest out after

@@ -22,8 +22,15 @@ use Rattle.subject.specs.declared.Parsed.{Parsed}
 use Rattle.subject.specs.declared.Parsed.the-variants.{Accepted, Refused}
 use Rattle.sublist_walk.specs.Walk.{part, Walked, found, failed, walkOver}
 use Rattle.subject.proofs.Refusals.{refused-stands}
-use Rattle.sublist_walk.specs.Matching.{Outcome, outcome, over, countsFit, written, ifSubject, matchTable, matchParsed}
-use Rattle.sublist_walk.specs.Told.{Finds, Ends, Holding, Wrote}
+use Rattle.sublist_walk.specs.Matching.{Outcome, outcome, matchAnswer, over, countsFit, written, ifSubject, matchTable, matchParsed}
+use Rattle.sublist_walk.specs.Told.{walkOf, Finds, Ends, Holding, Wrote, tried, Tries}
+use Rattle.sublist_walk.specs.declared.TableMatch.{TableMatch}
+use Rattle.sublist_walk.specs.declared.TableMatch.the-variants as match
+use Rattle.sublist_walk.specs.declared.Tried.{Tried}
+use Rattle.sublist_walk.specs.declared.Tried.the-variants as try
+use Rattle.sublist_walk.specs.declared.Failure.{Failure}
+use Rattle.sublist_walk.specs.declared.Failure.the-variants as failure
+use Rattle.sublist_walk.proofs.Narrow.{narrow}
 use Rattle.sublist_walk.specs.declared.Walked as declared
 use Rattle.sublist_walk.specs.declared.Walked.the-variants as walked
 
@@ -40,8 +47,7 @@ pub walk-wrote : (w : Walked) (r : declared.Walked) (out after : List ℕ) → E
 walk-wrote w (walked.Found size peak2) out after v list peak e =
     let s : v .list ≡ list = cc (v .is, e) in
     v .stored ∙ rw s
-walk-wrote w walked.Wide out after v list peak e = let z : _≡_ {A = ℕ} 0 1 = cc in absurd (omega arith)
-walk-wrote w walked.Damaged out after v list peak e = let z : _≡_ {A = ℕ} 0 1 = cc in absurd (omega arith)
+walk-wrote w (walked.Failed why) out after v list peak e = let z : _≡_ {A = ℕ} 0 1 = cc in absurd (omega arith)
 
 -- so is what a copy of it leaves
 pub copy-wrote : (w : Walked) (count : ℕ) (list out after : List ℕ) → Holding w count list → count ≤ length list → after ≡ sets out 0 (part list 0 count) → Wrote w out after
@@ -56,25 +62,24 @@ module _ (list : List ℕ) (peak size : ℕ) (out : List ℕ) where
       → outcome (answer 0 (size ∷ peak ∷ [])) after ≡ written (found list peak) out
   found-whole after e h s = rw (le-ltb (length out) (length list) (omega arith), s, sets-over list out (omega arith), e)
 
--- a walk w that wrote to `list`, `before` until then. The match's walk is W: the same, unless w passed its limit
-module _ (w W : Walked) (kept : (w ≡ failed true → ⊥) → W ≡ w) (r : declared.Walked) (before list : List ℕ) (v : Ends r before list w) (out : List ℕ) where
-  pub wide-19 : W ≡ w → r ≡ walked.Wide → outcome (answer 19 []) out ≡ written W out
-  wide-19 q e = rw (q, (rw e at v))
-
-  pub damaged-19 : r ≡ walked.Damaged → outcome (answer 19 []) out ≡ written W out
-  damaged-19 e =
-      let d : w ≡ failed false = (rw e at v) in
-      rw (kept (λ f. let z : _≡_ {A = ℕ} 0 1 = cc in omega arith), d)
+-- a match by a walk w that wrote to `list`, `before` until then
+module _ (w : Walked) (r : declared.Walked) (before list : List ℕ) (v : Ends r before list w) (out : List ℕ) where
+  pub try-failed : (why : Failure) → r ≡ walked.Failed why → (t : Tried) → t ≡ tried why → Tries t out out w
+  try-failed why e t q = rw q (go why (rw e at v))
+    where
+      go : (x : Failure) → w ≡ failed x → Tries (tried x) out out w
+      go failure.Wide d = (d, refl)
+      go failure.Damaged d = (λ f. let z : _≡_ {A = ℕ} 0 1 = cc in omega arith, rw d)
 
   module _ (size peak : ℕ) (e : r ≡ walked.Found size peak) where
     finds : Finds w size peak before list
     finds = rw e at v
 
-    is-found : W ≡ found (finds .list) peak
-    is-found = let d = finds .is in kept (λ f. let z : _≡_ {A = ℕ} 0 1 = cc in omega arith) ∙ d
+    not-wide : w ≡ failed failure.Wide → ⊥
+    not-wide f = let d = finds .is in let z : _≡_ {A = ℕ} 0 1 = cc in omega arith
 
-    pub short-21 : length out < size → outcome (answer 21 (size ∷ [])) out ≡ written W out
-    short-21 h = rw is-found (found-short (finds .list) peak size out (finds .sized) h)
+    pub try-short : length out < size → Tries (try.Answered (match.OutShort size)) out out w
+    try-short h = (not-wide, rw (finds .is) (found-short (finds .list) peak size out (finds .sized) h))
 
     -- the walk w, as another call names it
     module _ (w2 : Walked) (q : w2 ≡ w) where
@@ -86,8 +91,29 @@ module _ (w W : Walked) (kept : (w ≡ failed true → ⊥) → W ≡ w) (r : de
             λ h. rw (finds .stored, d, n) (rw (sets-over l before (omega (arith, h, n, ap length (finds .stored), length-sets before 0 (finds .list)))) (take-append-seam l (drop (length l) before))),
           )
 
-      pub listed-0 : size ≤ length out → (after : List ℕ) → Wrote w2 out after → outcome (answer 0 (size ∷ peak ∷ [])) after ≡ written W out
-      listed-0 h after u = rw is-found (found-whole (finds .list) peak size out after (finds .sized) h (u (finds .list) peak (q ∙ finds .is)))
+      pub try-listed : size ≤ length out → (after : List ℕ) → Wrote w2 out after → Tries (try.Answered (match.Listed size peak)) out after w
+      try-listed h after u = (not-wide, rw (finds .is) (found-whole (finds .list) peak size out after (finds .sized) h (u (finds .list) peak (q ∙ finds .is))))
+
+-- narrow frontiers first, then the widest
+module _ (n m : ℕ) (a ts subject out : List ℕ) (t : Tried) (now : List ℕ) (v : Tries t out now (walkOf 32 n m a ts subject)) where
+  pub narrow-answers : (r : TableMatch) → t ≡ try.Answered r → outcome (matchAnswer r) now ≡ written (walkOf 1024 n m a ts subject) out
+  narrow-answers r e =
+      let u : Tries (try.Answered r) out now (walkOf 32 n m a ts subject) = (rw e at v) in
+      u .1 ∙ ap (λ w. written w out) (sym (narrow 32 1024 (omega arith) a n m ts (map fnv (tokens subject)) (u .0)))
+
+  module _ (e : t ≡ try.Wide) (t2 : Tried) (after : List ℕ) (v2 : Tries t2 now after (walkOf 1024 n m a ts subject)) where
+    still : now ≡ out
+    still = let u : Tries try.Wide out now (walkOf 32 n m a ts subject) = (rw e at v) in u .1
+
+    pub wide-answers : (r : TableMatch) → t2 ≡ try.Answered r → outcome (matchAnswer r) after ≡ written (walkOf 1024 n m a ts subject) out
+    wide-answers r e2 =
+        let u : Tries (try.Answered r) now after (walkOf 1024 n m a ts subject) = (rw e2 at v2) in
+        u .1 ∙ ap (written (walkOf 1024 n m a ts subject)) still
+
+    pub wide-19 : t2 ≡ try.Wide → outcome (answer 19 []) after ≡ written (walkOf 1024 n m a ts subject) out
+    wide-19 e2 =
+        let u : Tries try.Wide now after (walkOf 1024 n m a ts subject) = (rw e2 at v2) in
+        rw (u .0, u .1, still)
 
 -- the counts
 module _ (n m : ℕ) (a ts : List ℕ) where

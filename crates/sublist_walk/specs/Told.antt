@@ -1,13 +1,19 @@
 -- Only private contracts cite this file: what the answers of the walk's steps tell of the levels and walks of Walk.antt.
 use Prim.Native.Nat.{ℕ, _+_, _*_, _≤_}
 use mathlib.Core.Path.{_≡_}
-use mathlib.Core.Bool.{true, false}
 use mathlib.Core.Logic.{_⊎_}
-use mathlib.Core.List.{List, []}
+use mathlib.Core.List.{List, [], map}
 use lib.ListN.{length, take}
 use lib.Seq.{sets}
+use Rattle.subject.specs.Text.{tokens}
+use Rattle.subject.specs.Fnv.{fnv}
 use Rattle.sublist_area.specs.declared.Child.{Child}
 use Rattle.sublist_area.specs.declared.Child.the-variants as child
+use Rattle.sublist_walk.specs.declared.Failure.{Failure}
+use Rattle.sublist_walk.specs.declared.Failure.the-variants as failure
+use Rattle.sublist_walk.specs.declared.TableMatch.the-variants as match
+use Rattle.sublist_walk.specs.declared.Tried.{Tried}
+use Rattle.sublist_walk.specs.declared.Tried.the-variants as try
 use Rattle.sublist_walk.specs.declared.Front.{Front}
 use Rattle.sublist_walk.specs.declared.Front.the-variants as front
 use Rattle.sublist_walk.specs.declared.Collected.{Collected}
@@ -16,25 +22,28 @@ use Rattle.sublist_walk.specs.declared.Step.{Step}
 use Rattle.sublist_walk.specs.declared.Step.the-variants as step
 use Rattle.sublist_walk.specs.declared.Walked as declared
 use Rattle.sublist_walk.specs.declared.Walked.the-variants as walked
-use Rattle.sublist_walk.specs.Walk.{Level, level, wide, damaged, Walked, found, failed}
+use Rattle.sublist_walk.specs.Walk.{Level, level, broken, Walked, found, failed, walkOver}
+use Rattle.sublist_walk.specs.Matching.{outcome, matchAnswer, written}
+
+-- the walk of a subject within a limit
+abbrev pub walkOf : ℕ → ℕ → ℕ → List ℕ → List ℕ → List ℕ → Walked
+walkOf limit n m a ts subject = walkOver limit a n m ts (map fnv (tokens subject))
 
 -- a frontier of n nodes, where a lookup found none
 abbrev pub missed : Child → ℕ → Front
 missed (child.Node j) n = front.Upto n
 missed (child.Missing link) n = front.Upto n
-missed child.Damaged n = front.Damaged
+missed child.Damaged n = front.Failed failure.Damaged
 
 -- a frontier and nothing listed
 unfoldable pub fronted : Front → List ℕ → Level
 fronted (front.Upto n) to = level (take n to) []
-fronted front.Wide to = wide
-fronted front.Damaged to = damaged
+fronted (front.Failed why) to = broken why
 
 -- the frontier has at most k nodes
 abbrev pub within : Front → ℕ → Type 0
 within (front.Upto n) k = n ≤ k
-within front.Wide k = Unit {0}
-within front.Damaged k = Unit {0}
+within (front.Failed why) k = Unit {0}
 
 -- two frontiers take turns: each stands from the first place on, or behind k places
 abbrev pub Turn : ℕ → ℕ → Type 0
@@ -51,12 +60,11 @@ pub record Listed (s : Level) (next : List ℕ) (at size nodes : ℕ) (out after
 
 abbrev pub Lists : Collected → List ℕ → List ℕ → ℕ → ℕ → Level → Type 0
 Lists (collected.Upto size) out after at nodes s = Listed s [] at size nodes out after
-Lists collected.Damaged out after at nodes s = s ≡ damaged
+Lists collected.Damaged out after at nodes s = s ≡ broken failure.Damaged
 
 abbrev pub Reaches : Step → List ℕ → List ℕ → List ℕ → ℕ → ℕ → Level → Type 0
 Reaches (step.On n size) to out after at nodes s = (n ≤ length to) × Listed s (take n to) at size nodes out after
-Reaches step.Wide to out after at nodes s = s ≡ wide
-Reaches step.Damaged to out after at nodes s = s ≡ damaged
+Reaches (step.Failed why) to out after at nodes s = s ≡ broken why
 
 -- the walk w ends with this peak and a list of `size` targets, which the output holds from the first place on, as far as that goes
 pub record Finds (w : Walked) (size peak : ℕ) (out after : List ℕ) : Type 0 where
@@ -67,8 +75,12 @@ pub record Finds (w : Walked) (size peak : ℕ) (out after : List ℕ) : Type 0 
 
 abbrev pub Ends : declared.Walked → List ℕ → List ℕ → Walked → Type 0
 Ends (walked.Found size peak) out after w = Finds w size peak out after
-Ends walked.Wide out after w = w ≡ failed true
-Ends walked.Damaged out after w = w ≡ failed false
+Ends (walked.Failed why) out after w = w ≡ failed why
+
+-- the list behind the last token, as what the walk ends with
+abbrev pub finished : Collected → ℕ → declared.Walked
+finished (collected.Upto size) peak = walked.Found size peak
+finished collected.Damaged peak = walked.Failed failure.Damaged
 
 -- the list that the walk w finds has `count` targets, and `list` begins with it if it has room for it
 abbrev pub Holding : Walked → ℕ → List ℕ → Type 0
@@ -77,3 +89,13 @@ Holding w count list = (l : List ℕ) (peak : ℕ) → w ≡ found l peak → (c
 -- the output holds the list that the walk w finds from the first place on, as far as that goes
 abbrev pub Wrote : Walked → List ℕ → List ℕ → Type 0
 Wrote w out after = (l : List ℕ) (peak : ℕ) → w ≡ found l peak → after ≡ sets out 0 l
+
+-- a walk that failed, as a match within its limit
+abbrev pub tried : Failure → Tried
+tried failure.Wide = try.Wide
+tried failure.Damaged = try.Answered match.Damaged
+
+-- what a match within a limit says, where its walk is w: the match's answer; or that a frontier would pass the limit, and the output is as it was
+abbrev pub Tries : Tried → List ℕ → List ℕ → Walked → Type 0
+Tries (try.Answered r) out after w = (w ≡ failed failure.Wide → ⊥) × (outcome (matchAnswer r) after ≡ written w out)
+Tries try.Wide out after w = (w ≡ failed failure.Wide) × (after ≡ out)

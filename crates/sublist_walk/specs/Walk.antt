@@ -9,6 +9,8 @@ use Rattle.sublist_area.specs.declared.Child.{Child}
 use Rattle.sublist_area.specs.declared.Child.the-variants.{Node, Missing, Damaged}
 use Rattle.sublist_area.specs.Words.{word, literalChild, starChild}
 use Rattle.sublist_tree.specs.Tree.{Key, star, lit}
+use Rattle.sublist_walk.specs.declared.Failure.{Failure}
+use Rattle.sublist_walk.specs.declared.Failure.the-variants as failure
 
 -- count elements from a place on
 abbrev pub part : List ℕ → ℕ → ℕ → List ℕ
@@ -18,36 +20,35 @@ abbrev pub among : ℕ → List ℕ → Bool
 among j [] = false
 among j (i ∷ is) = or (eqb j i) (among j is)
 
--- a level half done: the next frontier and the list so far; or a frontier that would pass its limit; or a number that points outside
+-- a level half done: the next frontier and the list so far; or why the walk fails there: a frontier would pass its limit, or a number points outside
 pub data Level : Type 0 where
   level : List ℕ → List ℕ → Level
-  wide : Level
-  damaged : Level
+  broken : Failure → Level
 
 -- how far a walk has come: the frontier, the list collected, and the largest frontier met
 pub data Walk : Type 0 where
   at : List ℕ → List ℕ → ℕ → Walk
-  tooWide : Walk
-  broken : Walk
+  stuck : Failure → Walk
 
--- what a walk ends with
+-- what a walk ends with: the list and the peak
 pub data Walked : Type 0 where
   found : List ℕ → ℕ → Walked
-  failed : Bool → Walked
+  failed : Failure → Walked
 
 -- the targets that the words f and f + 1 of node i say, start and count
 unfoldable pub collect : List ℕ → ℕ → List ℕ → ℕ → ℕ → Level → Level
-collect a m ts f i (level next list) = pick (leb (word a i f + word a i (f + 1)) m) (level next (list ++ part ts (word a i f) (word a i (f + 1)))) damaged
-collect a m ts f i wide = wide
-collect a m ts f i damaged = damaged
+collect a m ts f i (level next list) =
+    pick (leb (word a i f + word a i (f + 1)) m) (level next (list ++ part ts (word a i f) (word a i (f + 1)))) (broken failure.Damaged)
+collect a m ts f i (broken why) = broken why
 
 -- a child joins the next frontier, behind those there, unless it is there; `limit` nodes at the most
 unfoldable pub push : ℕ → Level → Child → Level
-push limit (level next list) (Node j) = pick (among j next) (level next list) (pick (ltb (length next) limit) (level (next ++ (j ∷ [])) list) wide)
+push limit (level next list) (Node j) =
+    pick (among j next) (level next list)
+    (pick (ltb (length next) limit) (level (next ++ (j ∷ [])) list) (broken failure.Wide))
 push limit (level next list) (Missing link) = level next list
-push limit (level next list) Damaged = damaged
-push limit wide c = wide
-push limit damaged c = damaged
+push limit (level next list) Damaged = broken failure.Damaged
+push limit (broken why) c = broken why
 
 module _ (limit : ℕ) (a : List ℕ) (n m : ℕ) (ts : List ℕ) where
   -- one node of the frontier and a token's hash h: its `>` targets, then its literal child, then its `*` child
@@ -60,13 +61,11 @@ module _ (limit : ℕ) (a : List ℕ) (n m : ℕ) (ts : List ℕ) where
 
   unfoldable pub arrived : ℕ → Level → Walk
   arrived peak (level next list) = at next list (max peak (length next))
-  arrived peak wide = tooWide
-  arrived peak damaged = broken
+  arrived peak (broken why) = stuck why
 
   unfoldable pub onToken : Walk → ℕ → Walk
   onToken (at front list peak) h = arrived peak (visits h (level [] list) front)
-  onToken tooWide h = tooWide
-  onToken broken h = broken
+  onToken (stuck why) h = stuck why
 
   unfoldable pub onTokens : Walk → List ℕ → Walk
   onTokens w [] = w
@@ -79,13 +78,11 @@ module _ (limit : ℕ) (a : List ℕ) (n m : ℕ) (ts : List ℕ) where
 
   unfoldable pub listed : ℕ → Level → Walked
   listed peak (level next list) = found list peak
-  listed peak wide = failed true
-  listed peak damaged = failed false
+  listed peak (broken why) = failed why
 
   unfoldable pub ended : Walk → Walked
   ended (at front list peak) = listed peak (exact (level [] list) front)
-  ended tooWide = failed true
-  ended broken = failed false
+  ended (stuck why) = failed why
 
   -- from the root alone
   unfoldable pub walkOver : List ℕ → Walked
@@ -102,8 +99,7 @@ module _ {K : Type 0} (look : ℕ → Key K → Child) (limit : ℕ) (a : List �
 
   unfoldable pub onTokenBy : Walk → K → Walk
   onTokenBy (at front list peak) h = arrived limit a n m ts peak (visitsBy h (level [] list) front)
-  onTokenBy tooWide h = tooWide
-  onTokenBy broken h = broken
+  onTokenBy (stuck why) h = stuck why
 
   unfoldable pub onTokensBy : Walk → List K → Walk
   onTokensBy w [] = w

@@ -35,10 +35,10 @@ returns c =
     let w = after-wide .wide in
     let x = after-word-at .word-at in
     let y = after-word-at2 .word-at2 in
-    collect-outside (a .area .now) (a .store .now) (a .targets) (a .field) (a .node) (w .result) (x .result) (y .result) (w .ensures) (x .ensures .0) (y .ensures .0) (c .if1 .taken)
+    collect-outside (a .node-words .now) (a .target-words .now) (a .targets) (a .field) (a .node) (w .result) (x .result) (y .result) (w .ensures) (x .ensures .0) (y .ensures .0) (c .if1 .taken)
 
-copy-targets-requires : tie.Need-copy-targets-requires
-copy-targets-requires c κs = search needs
+copy-part-requires : tie.Need-copy-part-requires
+copy-part-requires c κs = search needs
 
 add-t11 : tie.Need-add-t11
 add-t11 c = search needs
@@ -48,8 +48,8 @@ same-length c = search needs
 
 returns-2 : tie.Need-returns-2
 returns-2 c =
-    let after-copy-targets = c .before .before in
-    let else1 = after-copy-targets .before .before in
+    let after-copy-part = c .before .before in
+    let else1 = after-copy-part .before .before in
     let after-word-at2 = else1 .before in
     let after-word-at = after-word-at2 .before in
     let after-wide = after-word-at .before in
@@ -58,8 +58,8 @@ returns-2 c =
     let w = after-wide .wide in
     let x = after-word-at .word-at in
     let y = after-word-at2 .word-at2 in
-    collect-some (a .area .now) (a .store .now) (a .targets) (a .field) (a .node) (w .result) (x .result) (y .result) (w .ensures) (x .ensures .0) (y .ensures .0)
-    (else1 .if1 .left) (start .pre .1) (y .ensures .1) (a .at) _ _ (after-copy-targets .copy-targets .ensures)
+    collect-some (a .node-words .now) (a .target-words .now) (a .targets) (a .field) (a .node) (w .result) (x .result) (y .result) (w .ensures) (x .ensures .0) (y .ensures .0)
+    (else1 .if1 .left) (start .pre .1) (y .ensures .1) (a .at) _ _ (after-copy-part .copy-part .ensures)
 
 pub collect-spec : {M : Type 1} → statement M
 collect-spec =
@@ -73,7 +73,7 @@ collect-spec =
     word-at-requires-2
     add-if1
     returns
-    copy-targets-requires
+    copy-part-requires
     add-t11
     same-length
     returns-2)

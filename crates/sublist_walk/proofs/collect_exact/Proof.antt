@@ -13,13 +13,13 @@ use Rattle.sublist_walk.proofs.collect_exact.Statement.{statement}
 use Rattle.sublist_walk.proofs.collect_exact.Tie as tie
 
 abbrev Inv-loop : tie.InvT-loop
-Inv-loop area targets store from n out₀ at i₀ size₀ out i size =
-    Listed (exact 0 area 0 targets store (level [] []) (take i from)) [] at size i out₀ out
+Inv-loop targets node_words target_words from n out₀ at i₀ size₀ out i size =
+    Listed (exact 0 node_words 0 targets target_words (level [] []) (take i from)) [] at size i out₀ out
     × (length out ≡ length out₀)
     × (i ≤ n)
 
 abbrev μ-loop : tie.MeasureT-loop
-μ-loop area targets store from n out₀ at i₀ size₀ out i size = n - i
+μ-loop targets node_words target_words from n out₀ at i₀ size₀ out i size = n - i
 
 loop-holds : tie.Need-loop-holds Inv-loop μ-loop
 unfolding exact
@@ -60,7 +60,7 @@ returns c =
     let a = start .args in
     let l = at-loop .loop in
     let v = after-collect .collect in
-    exact-outside 0 (a .area .now) 0 (a .targets) (a .store .now) (a .from .now) (a .at) (l .size) (l .i) _ _ (l .inv .0)
+    exact-outside 0 (a .node-words .now) 0 (a .targets) (a .target-words .now) (a .from .now) (a .at) (l .size) (l .i) _ _ (l .inv .0)
     (a .n) (in-loop .loop-test .taken) (start .pre .0)
     (lists-damaged (v .result) _ _ (l .size) 1 _ (c .enum-told .given .1) (v .ensures))
 
@@ -80,7 +80,7 @@ loop-again c =
     let l = at-loop .loop in
     let v = after-collect .collect in
     let w = lists-upto (v .result) _ _ _ (l .size) 1 _ (after-length .length .given .1) (v .ensures) in
-    (exact-on 0 (a .area .now) 0 (a .targets) (a .store .now) (a .from .now) (a .at) (l .size) (l .i) _ _ (l .inv .0) (omega arith) _ _ w, v .kept .1 .1 .1 .1 .1 .0 ∙ l .inv .1, search needs)
+    (exact-on 0 (a .node-words .now) 0 (a .targets) (a .target-words .now) (a .from .now) (a .at) (l .size) (l .i) _ _ (l .inv .0) (omega arith) _ _ w, v .kept .1 .1 .1 .1 .1 .0 ∙ l .inv .1, search needs)
 
 same-length-2 : tie.Need-same-length-2 Inv-loop μ-loop
 same-length-2 c = search needs

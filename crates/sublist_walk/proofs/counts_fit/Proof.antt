@@ -7,21 +7,21 @@ returns : tie.Need-returns
 returns c =
     let start = c .before in
     let a = start .args in
-    counts-none (a .nodes) (a .targets) (a .area .now) (a .store .now) (c .if1 .taken)
+    counts-none (a .nodes) (a .targets) (a .node-words .now) (a .target-words .now) (c .if1 .taken)
 
 returns-2 : tie.Need-returns-2
 returns-2 c =
     let else1 = c .before in
     let start = else1 .before in
     let a = start .args in
-    counts-wide (a .nodes) (a .targets) (a .area .now) (a .store .now) (else1 .if1 .left) (c .if2 .taken)
+    counts-wide (a .nodes) (a .targets) (a .node-words .now) (a .target-words .now) (else1 .if1 .left) (c .if2 .taken)
 
 returns-3 : tie.Need-returns-3
 returns-3 c =
     let else1 = c .before in
     let start = else1 .before in
     let a = start .args in
-    counts-rest (a .nodes) (a .targets) (a .area .now) (a .store .now) (else1 .if1 .left) (c .if2 .left)
+    counts-rest (a .nodes) (a .targets) (a .node-words .now) (a .target-words .now) (else1 .if1 .left) (c .if2 .left)
 
 pub counts-fit-spec : {M : Type 1} → statement M
 counts-fit-spec = tie.close (tie.spec returns returns-2 returns-3)

@@ -24,8 +24,8 @@ returns-2 c =
     parsed-19 (a .nodes) (a .targets) (a .node-words .now) (a .target-words .now) (a .subject .now) (a .out .now) (else1 .if1 .left)
     (sym (not-true _ (c .if2 .taken)) ∙ after-counts-fit .counts-fit .ensures)
 
-match-fresh-requires : tie.Need-match-fresh-requires
-match-fresh-requires c κs =
+match-walk-requires : tie.Need-match-walk-requires
+match-walk-requires c κs =
     let else2 = c .before in
     let after-counts-fit = else2 .before in
     let else1 = after-counts-fit .before in
@@ -38,14 +38,14 @@ same-length c = search needs
 
 returns-3 : tie.Need-returns-3
 returns-3 c =
-    let after-match-fresh = c .before .before in
-    let else2 = after-match-fresh .before .before in
+    let after-match-walk = c .before .before in
+    let else2 = after-match-walk .before .before in
     let after-counts-fit = else2 .before in
     let else1 = after-counts-fit .before in
     let start = else1 .before .before .before .before .before in
     let a = start .args in
     parsed-counted (a .nodes) (a .targets) (a .node-words .now) (a .target-words .now) (a .subject .now) (a .out .now) (else1 .if1 .left)
-    (sym (not-false _ (else2 .if2 .left)) ∙ after-counts-fit .counts-fit .ensures) _ (after-match-fresh .match-fresh .ensures)
+    (sym (not-false _ (else2 .if2 .left)) ∙ after-counts-fit .counts-fit .ensures) _ (after-match-walk .match-walk .ensures)
 
 pub match-parsed-spec : {M : Type 1} → statement M
 match-parsed-spec =
@@ -54,6 +54,6 @@ match-parsed-spec =
     returns
     counts-fit-requires
     returns-2
-    match-fresh-requires
+    match-walk-requires
     same-length
     returns-3)

@@ -3,18 +3,18 @@ use Prim.Native.Nat.{_/_}
 use native.Mathlib.Omega.{arith}
 use lib.ListN.{length}
 use borrow.Author.Needs.{needs}
-use Rattle.sublist_walk.proofs.Writing.{limit-same, wide-19, damaged-19, short-21, holding, listed-0}
+use Rattle.sublist_walk.proofs.Writing.{limit-same, try-failed, try-short, holding, try-listed}
 use Rattle.sublist_walk.proofs.match_within.Statement.{statement}
 use Rattle.sublist_walk.proofs.match_within.Tie as tie
 
 walk-requires : tie.Need-walk-requires
 walk-requires c κs = search needs
 
-enum-told : tie.Need-enum-told
-enum-told c = search needs
+enum-known-f : tie.Need-enum-known-f
+enum-known-f c = search needs
 
-enum-told-2 : tie.Need-enum-told-2
-enum-told-2 c = search needs
+failed-try-requires : tie.Need-failed-try-requires
+failed-try-requires c κs = search needs
 
 enum-known-length : tie.Need-enum-known-length
 enum-known-length c = search needs
@@ -32,9 +32,7 @@ returns c =
     let start = after-walk .before .before .before .before .before .before .before .before .before in
     let a = start .args in
     let v = after-walk .walk in
-    let k = length (a .both .now) / 2 in
-    let q = limit-same 1024 k (a .area .now) (a .nodes) (a .targets) (a .store .now) _ (omega arith) in
-    short-21 _ _ (λ f. q) (v .result) _ _ (v .ensures) (a .out .now) _ _ (after-length .length .given .1) (c .if1 .taken)
+    try-short _ (v .result) _ _ (v .ensures) (a .out .now) _ _ (after-length .length .given .1) (c .if1 .taken)
 
 write-list-requires : tie.Need-write-list-requires
 write-list-requires c κs =
@@ -45,10 +43,9 @@ write-list-requires c κs =
     let a = start .args in
     let v = after-walk .walk in
     let k = length (a .both .now) / 2 in
-    let q = limit-same 1024 k (a .area .now) (a .nodes) (a .targets) (a .store .now) _ (omega arith) in
     let f = v .kept .1 .1 .1 .1 .1 .0 in
-    let p = limit-same (length (v .last .1 .1 .1 .1 .1 .0) / 2) k (a .area .now) (a .nodes) (a .targets) (a .store .now) _ (omega (arith, f)) in
-    (omega (arith, f, start .pre .0), omega (arith, f, start .pre .0), start .pre .1, start .pre .2, holding _ _ (λ f. q) (v .result) _ _ (v .ensures) (a .out .now) _ _ (after-length .length .given .1) _ p)
+    let p = limit-same (length (v .last .1 .1 .1 .1 .1 .0) / 2) k (a .node-words .now) (a .nodes) (a .targets) (a .target-words .now) _ (omega (arith, f)) in
+    (omega (arith, f, start .pre .0), omega (arith, f, start .pre .1), start .pre .2, start .pre .3, holding _ (v .result) _ _ (v .ensures) (a .out .now) _ _ (after-length .length .given .1) _ p)
 
 same-length-3 : tie.Need-same-length-3
 same-length-3 c = search needs
@@ -58,13 +55,12 @@ same-length-4 c = search needs
 
 returns-2 : tie.Need-returns-2
 returns-2 c =
-    let after-walk = c .before .before .before .before .before .before in
+    let after-f = c .before .before in
+    let after-walk = after-f .before .before .before .before .before .before in
     let start = after-walk .before .before .before .before .before .before .before .before .before in
     let a = start .args in
     let v = after-walk .walk in
-    let k = length (a .both .now) / 2 in
-    let q = limit-same 1024 k (a .area .now) (a .nodes) (a .targets) (a .store .now) _ (omega arith) in
-    wide-19 _ _ (λ f. q) (v .result) _ _ (v .ensures) (a .out .now) q (c .enum-told .given .1)
+    try-failed _ (v .result) _ _ (v .ensures) (a .out .now) _ (after-f .f .given .1) (c .failed-try .result) (c .failed-try .ensures)
 
 same-length-5 : tie.Need-same-length-5
 same-length-5 c = search needs
@@ -72,27 +68,11 @@ same-length-5 c = search needs
 same-length-6 : tie.Need-same-length-6
 same-length-6 c = search needs
 
-returns-3 : tie.Need-returns-3
-returns-3 c =
-    let after-walk = c .before .before .before .before .before .before in
-    let start = after-walk .before .before .before .before .before .before .before .before .before in
-    let a = start .args in
-    let v = after-walk .walk in
-    let k = length (a .both .now) / 2 in
-    let q = limit-same 1024 k (a .area .now) (a .nodes) (a .targets) (a .store .now) _ (omega arith) in
-    damaged-19 _ _ (λ f. q) (v .result) _ _ (v .ensures) (a .out .now) (c .enum-told2 .given .1)
-
 same-length-7 : tie.Need-same-length-7
 same-length-7 c = search needs
 
-same-length-8 : tie.Need-same-length-8
-same-length-8 c = search needs
-
-same-length-9 : tie.Need-same-length-9
-same-length-9 c = search needs
-
-returns-4 : tie.Need-returns-4
-returns-4 c =
+returns-3 : tie.Need-returns-3
+returns-3 c =
     let after-write-list = c .before .before .before .before in
     let else1 = after-write-list .before .before .before .before in
     let after-length = else1 .before .before in
@@ -101,18 +81,17 @@ returns-4 c =
     let a = start .args in
     let v = after-walk .walk in
     let k = length (a .both .now) / 2 in
-    let q = limit-same 1024 k (a .area .now) (a .nodes) (a .targets) (a .store .now) _ (omega arith) in
     let f = v .kept .1 .1 .1 .1 .1 .0 in
-    let p = limit-same (length (v .last .1 .1 .1 .1 .1 .0) / 2) k (a .area .now) (a .nodes) (a .targets) (a .store .now) _ (omega (arith, f)) in
-    listed-0 _ _ (λ f. q) (v .result) _ _ (v .ensures) (a .out .now) _ _ (after-length .length .given .1) _ p (else1 .if1 .left) _ (after-write-list .write-list .ensures)
+    let p = limit-same (length (v .last .1 .1 .1 .1 .1 .0) / 2) k (a .node-words .now) (a .nodes) (a .targets) (a .target-words .now) _ (omega (arith, f)) in
+    try-listed _ (v .result) _ _ (v .ensures) (a .out .now) _ _ (after-length .length .given .1) _ p (else1 .if1 .left) _ (after-write-list .write-list .ensures)
 
 pub match-within-spec : {M : Type 1} → statement M
 match-within-spec =
     tie.close
     (tie.spec
     walk-requires
-    enum-told
-    enum-told-2
+    enum-known-f
+    failed-try-requires
     enum-known-length
     same-length
     same-length-2
@@ -123,8 +102,5 @@ match-within-spec =
     returns-2
     same-length-5
     same-length-6
-    returns-3
     same-length-7
-    same-length-8
-    same-length-9
-    returns-4)
+    returns-3)

@@ -1,7 +1,7 @@
 -- `sublist_walk::push_children` meets its contract. Assumes nothing.
 use native.Mathlib.Omega.{arith}
 use borrow.Author.Needs.{needs}
-use Rattle.sublist_walk.proofs.Levels.{first-wide, first-damaged, second, upto}
+use Rattle.sublist_walk.proofs.Levels.{first-failed, second, upto}
 use Rattle.sublist_walk.proofs.push_children.Statement.{statement}
 use Rattle.sublist_walk.proofs.push_children.Tie as tie
 
@@ -14,11 +14,8 @@ star-child-requires c κs = search needs
 push-child-requires : tie.Need-push-child-requires
 push-child-requires c κs = search needs
 
-enum-told : tie.Need-enum-told
-enum-told c = search needs
-
-enum-told-2 : tie.Need-enum-told-2
-enum-told-2 c = search needs
+enum-known-f : tie.Need-enum-known-f
+enum-known-f c = search needs
 
 enum-known-x : tie.Need-enum-known-x
 enum-known-x c = search needs
@@ -36,32 +33,20 @@ same-length c = search needs
 
 returns : tie.Need-returns
 returns c =
-    let after-push-child = c .before .before .before .before in
+    let after-f = c .before in
+    let after-push-child = after-f .before .before .before .before in
     let after-literal-child = after-push-child .before .before .before in
     let start = after-literal-child .before .before .before in
     let a = start .args in
     let d = after-literal-child .literal-child in
     let k = after-push-child .push-child in
-    (first-wide _ (a .to .now) (k .last .0) (a .n) _ _ (d .result) (d .ensures) (k .result) (k .ensures .0) (c .enum-told .given .1) _, tt)
+    (first-failed _ (a .to .now) (k .last .0) (a .n) _ _ (d .result) (d .ensures) (k .result) (k .ensures .0) _ (after-f .f .given .1) _, tt)
 
 same-length-2 : tie.Need-same-length-2
 same-length-2 c = search needs
 
 returns-2 : tie.Need-returns-2
 returns-2 c =
-    let after-push-child = c .before .before .before .before in
-    let after-literal-child = after-push-child .before .before .before in
-    let start = after-literal-child .before .before .before in
-    let a = start .args in
-    let d = after-literal-child .literal-child in
-    let k = after-push-child .push-child in
-    (first-damaged _ (a .to .now) (k .last .0) (a .n) _ _ (d .result) (d .ensures) (k .result) (k .ensures .0) (c .enum-told2 .given .1) _, tt)
-
-same-length-3 : tie.Need-same-length-3
-same-length-3 c = search needs
-
-returns-3 : tie.Need-returns-3
-returns-3 c =
     let after-push-child2 = c .before .before in
     let after-x = after-push-child2 .before .before .before in
     let after-push-child = after-x .before .before .before .before in
@@ -85,13 +70,10 @@ push-children-spec =
     literal-child-requires
     star-child-requires
     push-child-requires
-    enum-told
-    enum-told-2
+    enum-known-f
     enum-known-x
     push-child-requires-2
     same-length
     returns
     same-length-2
-    returns-2
-    same-length-3
-    returns-3)
+    returns-2)

@@ -8,15 +8,15 @@ use borrow.Author.Needs.{needs}
 use borrow.Rule.Slice.PartMut.{same-len-mid}
 use Rattle.sublist_walk.specs.Walk.{part, level, visits}
 use Rattle.sublist_walk.specs.Told.{Listed}
-use Rattle.sublist_walk.proofs.Visits.{listed-none, next-on, next-wide, next-damaged}
-use Rattle.sublist_walk.proofs.Levels.{part-length, reaches-on, reaches-wide, reaches-damaged}
+use Rattle.sublist_walk.proofs.Visits.{listed-none, next-on, next-failed}
+use Rattle.sublist_walk.proofs.Levels.{part-length, reaches-on, reaches-failed}
 use Rattle.sublist_walk.proofs.Lending.{lent-length, back-there, back-turn, turn-within, read-same}
 use Rattle.sublist_walk.proofs.visit_front.Statement.{statement}
 use Rattle.sublist_walk.proofs.visit_front.Tie as tie
 
 abbrev Inv-loop : tie.InvT-loop
-Inv-loop area nodes targets store hash both₀ from n out₀ at limit start end i₀ next₀ size₀ both out i next size =
-    Listed (visits limit area nodes targets store hash (level [] []) (take i (drop from both₀))) (take next (part both start limit)) at size i out₀ out
+Inv-loop nodes targets node-words target-words hash both₀ from n out₀ at limit start end i₀ next₀ size₀ both out i next size =
+    Listed (visits limit node-words nodes targets target-words hash (level [] []) (take i (drop from both₀))) (take next (part both start limit)) at size i out₀ out
     × (next ≤ limit)
     × (part both from n ≡ part both₀ from n)
     × (length both ≡ length both₀)
@@ -25,7 +25,7 @@ Inv-loop area nodes targets store hash both₀ from n out₀ at limit start end 
     × (i ≤ n)
 
 abbrev μ-loop : tie.MeasureT-loop
-μ-loop area nodes targets store hash both₀ from n out₀ at limit start end i₀ next₀ size₀ both out i next size = n - i
+μ-loop nodes targets node-words target-words hash both₀ from n out₀ at limit start end i₀ next₀ size₀ both out i next size = n - i
 
 sub-start : tie.Need-sub-start Inv-loop μ-loop
 sub-start c =
@@ -74,8 +74,8 @@ visit-requires c κs =
     let to = half - a .from in
     (omega (arith, part-length (l .both) to (to + half - to) (omega arith)), start .pre .3, omega arith)
 
-enum-told : tie.Need-enum-told Inv-loop μ-loop
-enum-told c = search needs
+enum-known-f : tie.Need-enum-known-f Inv-loop μ-loop
+enum-known-f c = search needs
 
 same-length : tie.Need-same-length Inv-loop μ-loop
 same-length c = search needs
@@ -85,7 +85,8 @@ same-length-2 c = search needs
 
 returns : tie.Need-returns Inv-loop μ-loop
 returns c =
-    let after-visit = c .before .before .before .before .before .before in
+    let after-f = c .before in
+    let after-visit = after-f .before .before .before .before .before .before in
     let in-loop = after-visit .before .before .before .before in
     let at-loop = in-loop .before in
     let start = at-loop .before .before .before .before .before in
@@ -100,39 +101,9 @@ returns c =
     let k = lent-length (l .both) (v .last .1 .1 .1 .1 .1 .1 .0) to (to + half - to) half e fits same in
     let f = ap (λ x. take (l .next) (part (l .both) to x)) e in
     let d = read-same (l .both) (a .both .now) (a .from) (a .n) (l .i) (l .inv .2) (in-loop .loop-test .taken) in
-    next-wide half (a .area .now) (a .nodes) (a .targets) (a .store .now) (a .hash) (drop (a .from) (a .both .now)) _ (a .at) (l .size) (l .i) _ _ (l .inv .0)
-    (a .n) (in-loop .loop-test .taken) (rw (length-drop (a .from) (a .both .now)) (omega arith)) _ k _ f _ d
-    (reaches-wide (v .result) (v .last .1 .1 .1 .1 .1 .1 .0) _ (v .last .1 .1 .1 .1 .1 .1 .1 .1 .0) (l .size) 1 _ (v .ensures) (c .enum-told .given .1))
-
-enum-told-2 : tie.Need-enum-told-2 Inv-loop μ-loop
-enum-told-2 c = search needs
-
-same-length-3 : tie.Need-same-length-3 Inv-loop μ-loop
-same-length-3 c = search needs
-
-same-length-4 : tie.Need-same-length-4 Inv-loop μ-loop
-same-length-4 c = search needs
-
-returns-2 : tie.Need-returns-2 Inv-loop μ-loop
-returns-2 c =
-    let after-visit = c .before .before .before .before .before .before in
-    let in-loop = after-visit .before .before .before .before in
-    let at-loop = in-loop .before in
-    let start = at-loop .before .before .before .before .before in
-    let a = start .args in
-    let l = at-loop .loop in
-    let v = after-visit .visit in
-    let half = length (a .both .now) / 2 in
-    let to = half - a .from in
-    let e : to + half - to ≡ half = omega arith in
-    let fits : to + half ≤ length (l .both) = omega arith in
-    let same = v .kept .1 .1 .1 .1 .1 .1 .0 in
-    let k = lent-length (l .both) (v .last .1 .1 .1 .1 .1 .1 .0) to (to + half - to) half e fits same in
-    let f = ap (λ x. take (l .next) (part (l .both) to x)) e in
-    let d = read-same (l .both) (a .both .now) (a .from) (a .n) (l .i) (l .inv .2) (in-loop .loop-test .taken) in
-    next-damaged half (a .area .now) (a .nodes) (a .targets) (a .store .now) (a .hash) (drop (a .from) (a .both .now)) _ (a .at) (l .size) (l .i) _ _ (l .inv .0)
-    (a .n) (in-loop .loop-test .taken) (rw (length-drop (a .from) (a .both .now)) (omega arith)) _ k _ f _ d
-    (reaches-damaged (v .result) (v .last .1 .1 .1 .1 .1 .1 .0) _ (v .last .1 .1 .1 .1 .1 .1 .1 .1 .0) (l .size) 1 _ (v .ensures) (c .enum-told2 .given .1))
+    next-failed half (a .node-words .now) (a .nodes) (a .targets) (a .target-words .now) (a .hash) (drop (a .from) (a .both .now)) _ (a .at) (l .size) (l .i) _ _ (l .inv .0)
+    (a .n) (in-loop .loop-test .taken) (rw (length-drop (a .from) (a .both .now)) (omega arith)) _ k _ f _ d _
+    (reaches-failed (v .result) (v .last .1 .1 .1 .1 .1 .1 .0) _ (v .last .1 .1 .1 .1 .1 .1 .1 .1 .0) (l .size) 1 _ (v .ensures) _ (after-f .f .given .1))
 
 enum-known-front : tie.Need-enum-known-front Inv-loop μ-loop
 enum-known-front c = search needs
@@ -163,7 +134,7 @@ loop-again c =
     let d = read-same (l .both) (a .both .now) (a .from) (a .n) (l .i) (l .inv .2) (in-loop .loop-test .taken) in
     let t = back-there (l .both) (v .last .1 .1 .1 .1 .1 .1 .0) to (to + half - to) half e fits same in
     let w = reaches-on (v .result) (v .last .1 .1 .1 .1 .1 .1 .0) _ (v .last .1 .1 .1 .1 .1 .1 .1 .1 .0) (l .size) 1 _ (v .ensures) _ _ (after-front .front .given .1) in (
-      next-on half (a .area .now) (a .nodes) (a .targets) (a .store .now) (a .hash) (drop (a .from) (a .both .now)) _ (a .at) (l .size) (l .i) _ _ (l .inv .0)
+      next-on half (a .node-words .now) (a .nodes) (a .targets) (a .target-words .now) (a .hash) (drop (a .from) (a .both .now)) _ (a .at) (l .size) (l .i) _ _ (l .inv .0)
           (rw (length-drop (a .from) (a .both .now)) (omega arith)) _ k _ f _ d _ _ (ap (take (after-front .front .given .0 .0)) (sym t)) _ _ (w .1),
       omega (arith, w .0, same, k),
       back-turn (l .both) (v .last .1 .1 .1 .1 .1 .1 .0) to (to + half - to) half e fits same (a .from) (a .n) (start .pre .0) refl (start .pre .1) ∙ l .inv .2,
@@ -173,14 +144,14 @@ loop-again c =
       search needs,
     )
 
-same-length-5 : tie.Need-same-length-5 Inv-loop μ-loop
-same-length-5 c = search needs
+same-length-3 : tie.Need-same-length-3 Inv-loop μ-loop
+same-length-3 c = search needs
 
-same-length-6 : tie.Need-same-length-6 Inv-loop μ-loop
-same-length-6 c = search needs
+same-length-4 : tie.Need-same-length-4 Inv-loop μ-loop
+same-length-4 c = search needs
 
-returns-3 : tie.Need-returns-3 Inv-loop μ-loop
-returns-3 c =
+returns-2 : tie.Need-returns-2 Inv-loop μ-loop
+returns-2 c =
     let at-loop = c .before in
     let start = at-loop .before .before .before .before .before in
     let a = start .args in
@@ -206,18 +177,14 @@ visit-front-spec =
     part-to-start
     part-to-end
     visit-requires
-    enum-told
+    enum-known-f
     same-length
     same-length-2
     returns
-    enum-told-2
-    same-length-3
-    same-length-4
-    returns-2
     enum-known-front
     add-i
     loop-less
     loop-again
-    same-length-5
-    same-length-6
-    returns-3)
+    same-length-3
+    same-length-4
+    returns-2)

@@ -14,7 +14,7 @@ enum-told-3 : tie.Need-enum-told-3
 enum-told-3 c = search needs
 
 returns : tie.Need-returns
-returns c = search needs
+returns c = rw (c .enum-told .given .1) refl
 
 returns-2 : tie.Need-returns-2
 returns-2 c = rw (c .enum-told2 .given .1) refl

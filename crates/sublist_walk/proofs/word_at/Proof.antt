@@ -23,7 +23,7 @@ returns c =
 returns-2 : tie.Need-returns-2
 returns-2 c =
     let a = c .before .before .args in
-    (sym (List·getD-eq-default (a .area .now) 0 (omega arith)), omega arith)
+    (sym (List·getD-eq-default (a .words .now) 0 (omega arith)), omega arith)
 
 pub word-at-spec : {M : Type 1} → statement M
 word-at-spec = tie.close (tie.spec mul-wide shared-slice-read-wide wide-requires returns returns-2)

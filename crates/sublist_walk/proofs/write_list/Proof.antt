@@ -4,19 +4,19 @@ use Rattle.sublist_walk.proofs.Writing.{copy-wrote, walk-wrote}
 use Rattle.sublist_walk.proofs.write_list.Statement.{statement}
 use Rattle.sublist_walk.proofs.write_list.Tie as tie
 
-copy-targets-requires : tie.Need-copy-targets-requires
-copy-targets-requires c κs = search needs
+copy-part-requires : tie.Need-copy-part-requires
+copy-part-requires c κs = search needs
 
 same-length : tie.Need-same-length
 same-length c = search needs
 
 returns : tie.Need-returns
 returns c =
-    let after-copy-targets = c .before .before in
-    let then1 = after-copy-targets .before .before in
+    let after-copy-part = c .before .before in
+    let then1 = after-copy-part .before .before in
     let start = then1 .before .before .before .before .before .before .before in
     let a = start .args in
-    copy-wrote _ (a .count) (a .list .now) (a .out .now) _ (start .pre .4) (then1 .if1 .taken) (after-copy-targets .copy-targets .ensures)
+    copy-wrote _ (a .count) (a .list .now) (a .out .now) _ (start .pre .4) (then1 .if1 .taken) (after-copy-part .copy-part .ensures)
 
 walk-requires : tie.Need-walk-requires
 walk-requires c κs = search needs
@@ -37,7 +37,7 @@ pub write-list-spec : {M : Type 1} → statement M
 write-list-spec =
     tie.close
     (tie.spec
-    copy-targets-requires
+    copy-part-requires
     same-length
     returns
     walk-requires

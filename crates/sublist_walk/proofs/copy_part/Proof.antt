@@ -1,4 +1,4 @@
--- `sublist_walk::copy_targets` meets its contract. The loop's invariant: the stores that are left give what all of them give. Assumes nothing.
+-- `sublist_walk::copy_part` meets its contract. The loop's invariant: the stores that are left give what all of them give. Assumes nothing.
 use Prim.Native.Nat.{_+_, _-_, _≤_}
 use native.Mathlib.Nat.{add-zero, sub-zero}
 use native.Mathlib.Omega.{arith}
@@ -8,18 +8,18 @@ use lib.Seq.{sets}
 use borrow.Author.Needs.{needs}
 use Rattle.sublist_walk.specs.Walk.{part}
 use Rattle.sublist_walk.proofs.Parts.{copied-all, copied-full, copied-next}
-use Rattle.sublist_walk.proofs.copy_targets.Statement.{statement}
-use Rattle.sublist_walk.proofs.copy_targets.Tie as tie
+use Rattle.sublist_walk.proofs.copy_part.Statement.{statement}
+use Rattle.sublist_walk.proofs.copy_part.Tie as tie
 
 abbrev Inv-loop : tie.InvT-loop
-Inv-loop targets start count out₀ at size i₀ out i =
-    (sets out (at + i) (part targets (start + i) (count - i)) ≡ sets out₀ at (part targets start count))
+Inv-loop words start count out₀ at size i₀ out i =
+    (sets out (at + i) (part words (start + i) (count - i)) ≡ sets out₀ at (part words start count))
     × (size ≡ length out₀)
     × (length out ≡ length out₀)
     × (i ≤ count)
 
 abbrev μ-loop : tie.MeasureT-loop
-μ-loop targets start count out₀ at size i₀ out i = count - i
+μ-loop words start count out₀ at size i₀ out i = count - i
 
 loop-holds : tie.Need-loop-holds Inv-loop μ-loop
 loop-holds c = (simp (add-zero, sub-zero), refl, refl, search needs)
@@ -34,7 +34,7 @@ returns : tie.Need-returns Inv-loop μ-loop
 returns c =
     let l = c .before .before .loop in
     let a = c .before .before .before .args in
-    copied-full (l .out) (a .targets .now) (a .at) (a .start) (a .count) (l .i) _ (l .inv .0) (omega arith)
+    copied-full (l .out) (a .words .now) (a .at) (a .start) (a .count) (l .i) _ (l .inv .0) (omega arith)
 
 add-out : tie.Need-add-out Inv-loop μ-loop
 add-out c = search needs
@@ -64,7 +64,7 @@ loop-again : tie.Need-loop-again Inv-loop μ-loop
 loop-again c =
     let l = c .before .before .before .loop in
     let a = c .before .before .before .before .args in
-    (copied-next (l .out) (a .targets .now) (a .at) (a .start) (a .count) (l .i) _ (l .inv .0) (omega arith) (omega arith), refl, simp length-set (l .inv .2), search needs)
+    (copied-next (l .out) (a .words .now) (a .at) (a .start) (a .count) (l .i) _ (l .inv .0) (omega arith) (omega arith), refl, simp length-set (l .inv .2), search needs)
 
 same-length-2 : tie.Need-same-length-2 Inv-loop μ-loop
 same-length-2 c = search needs
@@ -73,10 +73,10 @@ returns-2 : tie.Need-returns-2 Inv-loop μ-loop
 returns-2 c =
     let l = c .before .loop in
     let a = c .before .before .args in
-    copied-all (l .out) (a .targets .now) (a .at) (a .start) (a .count) (l .i) _ (l .inv .0) (omega arith)
+    copied-all (l .out) (a .words .now) (a .at) (a .start) (a .count) (l .i) _ (l .inv .0) (omega arith)
 
-pub copy-targets-spec : {M : Type 1} → statement M
-copy-targets-spec =
+pub copy-part-spec : {M : Type 1} → statement M
+copy-part-spec =
     tie.close
     (tie.spec
     Inv-loop
