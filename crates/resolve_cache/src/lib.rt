@@ -142,14 +142,11 @@ impl ResolveCache {
     pub fn clear(self) -> ResolveCache
         ensures { λ r. ⌜ r ≡ clear self ⌝ }
     {
-        let generation = self.generation;
-        ResolveCache {
-            capacity: self.capacity,
-            used: 0,
-            generation,
-            tick: Tick(0),
-            walks: self.walks,
-        }
+        let tick = Tick(0);
+        let mut next = self;
+        next.used = 0;
+        next.tick = tick;
+        next
     }
 
     // The targets of a subject, from the cache or by a walk of the standing table, whose list is then kept. 1 to 9, 17, 18, 19 on the counts; then a hit (21) or a walk (19, 21).
@@ -369,13 +366,12 @@ fn adopt(cache: ResolveCache, generation: Generation) -> ResolveCache
     if own.0 == generation.0 {
         return cache;
     }
-    ResolveCache {
-        capacity: cache.capacity,
-        used: 0, // its lists are another table's
-        generation,
-        tick: Tick(0),
-        walks: cache.walks,
-    }
+    let tick = Tick(0);
+    let mut next = cache;
+    next.used = 0; // its lists are another table's
+    next.generation = generation;
+    next.tick = tick;
+    next
 }
 
 fn next_tick(cache: ResolveCache) -> Tick
@@ -395,30 +391,19 @@ fn next_walks(cache: ResolveCache) -> u64
 fn hit(cache: ResolveCache) -> ResolveCache
     ensures { λ r. ⌜ r ≡ hit cache ⌝ }
 {
-    let generation = cache.generation;
     let tick = next_tick(cache);
-    ResolveCache {
-        capacity: cache.capacity,
-        used: cache.used,
-        generation,
-        tick,
-        walks: cache.walks,
-    }
+    let mut next = cache;
+    next.tick = tick; // and no walk is counted
+    next
 }
 
 // The cache after a walk that keeps nothing.
 fn walked(cache: ResolveCache) -> ResolveCache
     ensures { λ r. ⌜ r ≡ walked cache ⌝ }
 {
-    let generation = cache.generation;
-    let tick = next_tick(cache);
-    ResolveCache {
-        capacity: cache.capacity,
-        used: cache.used,
-        generation,
-        tick,
-        walks: next_walks(cache),
-    }
+    let mut next = hit(cache);
+    next.walks = next_walks(cache);
+    next
 }
 
 // How many slots are used once one more list is kept.
@@ -435,16 +420,9 @@ fn used_after(cache: ResolveCache) -> usize
 fn grown(cache: ResolveCache) -> ResolveCache
     ensures { λ r. ⌜ r ≡ grown cache ⌝ }
 {
-    let generation = cache.generation;
-    let tick = next_tick(cache);
-    let used = used_after(cache);
-    ResolveCache {
-        capacity: cache.capacity,
-        used,
-        generation,
-        tick,
-        walks: next_walks(cache),
-    }
+    let mut next = walked(cache);
+    next.used = used_after(cache);
+    next
 }
 
 // A slot is stamped.
