@@ -14,14 +14,15 @@ use Rattle.subject.specs.Choice.{pick, and}
 use Rattle.subject.specs.Text.{tokens}
 use Rattle.subject.specs.Fnv.{fnv}
 use Rattle.subject.specs.Utf8.{firstBad}
-use Rattle.subject.specs.Answers.{answer, refusal, parsed, unless}
+use Rattle.subject.specs.Answers.{Answer, answer, refusal, parsed, unless, whenAccepted}
 use Rattle.subject.specs.Grammar.{check, notUtf8, grammar}
 use Rattle.subject.specs.declared.SubjectError.{SubjectError}
 use Rattle.subject.specs.declared.SubjectError.the-variants.{TooLong, NotUtf8, Empty, TailWildcardNotLast, TooDeep, EmptyToken, WildcardNotAllowed, ControlChar, IllegalChar}
 use Rattle.subject.specs.declared.Parsed.{Parsed}
 use Rattle.subject.specs.declared.Parsed.the-variants.{Accepted, Refused}
 use Rattle.sublist_walk.specs.Walk.{part, Walked, found, failed, walkOver}
-use Rattle.sublist_walk.specs.Matching.{Outcome, outcome, over, countsFit, written, ifSubject, matchTable}
+use Rattle.subject.proofs.Refusals.{refused-stands}
+use Rattle.sublist_walk.specs.Matching.{Outcome, outcome, over, countsFit, written, ifSubject, matchTable, matchParsed}
 use Rattle.sublist_walk.specs.Told.{Finds, Ends, Holding, Wrote}
 use Rattle.sublist_walk.specs.declared.Walked as declared
 use Rattle.sublist_walk.specs.declared.Walked.the-variants as walked
@@ -108,6 +109,39 @@ module _ (n m : ℕ) (a ts : List ℕ) where
       go true false t = let z : _≡_ {A = ℕ} 0 1 = cc in absurd (omega arith)
       go false y t = let z : _≡_ {A = ℕ} 0 1 = cc in absurd (omega arith)
 
+-- the stages of a match for a subject that was parsed
+module _ (n m : ℕ) (a ts subject out : List ℕ) where
+  pub parsed-1 : 4096 < length subject → outcome (answer 1 []) out ≡ matchParsed n m a ts subject out
+  unfolding matchParsed
+  parsed-1 h = rw (lt-ltb 4096 (length subject) h)
+
+  module _ (short : length subject ≤ 4096) where
+    pub parsed-19 : false ≡ countsFit n m a ts → outcome (answer 19 []) out ≡ matchParsed n m a ts subject out
+    unfolding matchParsed
+    parsed-19 e = rw (le-ltb 4096 (length subject) short, ← e)
+
+    pub parsed-counted : true ≡ countsFit n m a ts → (x : Outcome)
+        → x ≡ written (walkOver 1024 a n m ts (map fnv (tokens subject))) out → x ≡ matchParsed n m a ts subject out
+    unfolding matchParsed
+    parsed-counted e x s = s ∙ rw (le-ltb 4096 (length subject) short, ← e)
+
+-- 1 does not apply to an accepted text
+accepted-short : (subject values : List ℕ) → grammar false subject ≡ answer 0 values → ltb 4096 (length subject) ≡ false
+unfolding grammar
+accepted-short subject values e = go (ltb 4096 (length subject)) e
+  where
+    go : (b : Bool)
+        → pick b (answer 1 []) (unless (notUtf8 (firstBad subject)) (pick (eqb (length subject) 0) (answer 3 []) (check false none 0 (tokens subject))))
+        ≡ answer 0 values → b ≡ false
+    go true f = let z : _≡_ {A = ℕ} 0 1 = cc in absurd (omega arith)
+    go false f = refl
+
+-- for an accepted subject it is the match
+pub parsed-same : (n m : ℕ) (a ts subject out values : List ℕ) → grammar false subject ≡ answer 0 values
+    → matchParsed n m a ts subject out ≡ matchTable n m a ts subject out
+unfolding matchParsed matchTable
+parsed-same n m a ts subject out values e = rw (accepted-short subject values e, e)
+
 -- a refused subject leaves the output
 refusal-leaves : (e : SubjectError) (out : List ℕ) (after : Outcome) → outcome (refusal e) out ≡ ifSubject (refusal e) out after
 refusal-leaves TooLong out after = refl
@@ -121,26 +155,10 @@ refusal-leaves (ControlChar b i) out after = refl
 refusal-leaves (IllegalChar b i) out after = refl
 
 module _ (n m : ℕ) (a ts subject out : List ℕ) (text : Parsed) (p : parsed text ≡ grammar false subject) where
-  pub subject-refused : (e : SubjectError) → text ≡ Refused e → outcome (refusal e) out ≡ matchTable n m a ts subject out
+  pub subject-refused : (e : SubjectError) → text ≡ Refused e → (r : Answer) → r ≡ whenAccepted (parsed text) (answer 19 [])
+      → outcome r out ≡ matchTable n m a ts subject out
   unfolding matchTable
-  subject-refused e t = rw (← p, t) (refusal-leaves e out _)
+  subject-refused e t r s = rw (s, ← refused-stands text e (answer 19 []) t, ← p, t) (refusal-leaves e out _)
 
-  module _ (c : ℕ) (t : text ≡ Accepted c) where
-    -- 1 did not apply
-    pub subject-short : length subject ≤ 4096
-    unfolding grammar
-    subject-short = go (ltb 4096 (length subject)) refl (rw t at p)
-      where
-        go : (b : Bool) → ltb 4096 (length subject) ≡ b
-            → answer 0 (c ∷ []) ≡ pick b (answer 1 []) (unless (notUtf8 (firstBad subject)) (pick (eqb (length subject) 0) (answer 3 []) (check false none 0 (tokens subject))))
-            → length subject ≤ 4096
-        go true l e = let z : _≡_ {A = ℕ} 0 1 = cc in absurd (omega arith)
-        go false l e = ltb-false 4096 (length subject) l
-
-    pub counts-19 : false ≡ countsFit n m a ts → outcome (answer 19 []) out ≡ matchTable n m a ts subject out
-    unfolding matchTable
-    counts-19 e = rw (← p, t, ← e)
-
-    pub counted : true ≡ countsFit n m a ts → (x : Outcome) → x ≡ written (walkOver 1024 a n m ts (map fnv (tokens subject))) out → x ≡ matchTable n m a ts subject out
-    unfolding matchTable
-    counted e x s = s ∙ rw (← p, t, ← e)
+  pub subject-accepted : (c : ℕ) → text ≡ Accepted c → (x : Outcome) → x ≡ matchParsed n m a ts subject out → x ≡ matchTable n m a ts subject out
+  subject-accepted c t x s = s ∙ parsed-same n m a ts subject out (c ∷ []) (sym p ∙ ap parsed t)

@@ -48,3 +48,9 @@ unfoldable pub matchTable : ℕ → ℕ → List ℕ → List ℕ → List ℕ �
 matchTable n m a ts subject out =
     ifSubject (grammar false subject) out
     (pick (countsFit n m a ts) (written (walkOver 1024 a n m ts (map fnv (tokens subject))) out) (outcome (answer 19 []) out))
+
+-- the match of a subject that was parsed before. 1 is asked again, of any text that is lent
+unfoldable pub matchParsed : ℕ → ℕ → List ℕ → List ℕ → List ℕ → List ℕ → Outcome
+matchParsed n m a ts subject out =
+    pick (ltb 4096 (length subject)) (outcome (answer 1 []) out)
+    (pick (countsFit n m a ts) (written (walkOver 1024 a n m ts (map fnv (tokens subject))) out) (outcome (answer 19 []) out))

@@ -11,7 +11,9 @@ ghost use Rattle.sublist_walk.specs.Told.{missed, fronted, within, Turn,
 ghost use Rattle.subject.specs.Text.{tokens};
 ghost use Rattle.subject.specs.Reading.{dotFrom};
 ghost use Rattle.subject.specs.Fnv.{fnv};
-ghost use Rattle.sublist_walk.specs.Matching.{outcome, matchAnswer, countsFit, written, matchTable};
+ghost use Rattle.subject.specs.Answers.{answer, parsed, whenAccepted};
+ghost use Rattle.sublist_walk.specs.Matching.{outcome, matchAnswer, countsFit, written, matchParsed, matchTable};
+use subject::MAX_TEXT;
 use subject::Parsed;
 use subject::SubjectError;
 use sublist_area::Child;
@@ -525,6 +527,39 @@ pub fn counts_fit(nodes: usize, targets: usize, area: &[u32], store: &[u32]) -> 
     targets <= store.len()
 }
 
+// A match for a subject that the caller has parsed: 1 for a text that no parse accepts, then 19, then 21.
+pub fn match_parsed(
+    nodes: usize,
+    targets: usize,
+    node_words: &[u32],
+    target_words: &[u32],
+    subject: &[u8],
+    out: &mut [u32],
+) -> TableMatch
+    ensures { λ r. ⌜
+        outcome (matchAnswer r) (now (out .exit))
+        ≡ matchParsed nodes targets (now («node_words» .entry)) (now («target_words» .entry)) (now (subject .entry))
+        (now (out .entry)) ⌝ }
+{
+    if MAX_TEXT < subject.len() {
+        return TableMatch::Invalid(SubjectError::TooLong);
+    }
+    if !counts_fit(nodes, targets, node_words, target_words) {
+        return TableMatch::Damaged;
+    }
+    match_fresh(nodes, targets, node_words, target_words, subject, out)
+}
+
+// The refusal of a subject's text, as that of a match.
+fn refused_subject(text: Parsed) -> TableMatch
+    ensures { λ r. ⌜ matchAnswer r ≡ whenAccepted (parsed text) (answer 19 []) ⌝ }
+{
+    match text {
+        Parsed::Accepted(_) => TableMatch::Damaged,
+        Parsed::Refused(e) => TableMatch::Invalid(e),
+    }
+}
+
 // The list of the targets that a subject matches in a table, written over the first places of the output: 1 to 9, then 19, then 21.
 pub fn match_table(
     nodes: usize,
@@ -534,15 +569,14 @@ pub fn match_table(
     subject: &[u8],
     out: &mut [u32],
 ) -> TableMatch
-    ensures { λ r. ⌜ outcome (matchAnswer r) (now (out .exit)) ≡ matchTable nodes targets (now («node_words» .entry)) (now («target_words» .entry)) (now (subject .entry)) (now (out .entry)) ⌝ }
+    ensures { λ r. ⌜
+        outcome (matchAnswer r) (now (out .exit))
+        ≡ matchTable nodes targets (now («node_words» .entry)) (now («target_words» .entry)) (now (subject .entry))
+        (now (out .entry)) ⌝ }
 {
-    match subject::parse_literal(subject) {
-        Parsed::Refused(e) => TableMatch::Invalid(e),
-        Parsed::Accepted(_) => {
-            if !counts_fit(nodes, targets, node_words, target_words) {
-                return TableMatch::Damaged;
-            }
-            match_fresh(nodes, targets, node_words, target_words, subject, out)
-        }
-    }
+    let text = subject::parse_literal(subject);
+    let Parsed::Accepted(_) = text else {
+        return refused_subject(text);
+    };
+    match_parsed(nodes, targets, node_words, target_words, subject, out)
 }
