@@ -128,5 +128,5 @@ module _ (c : ResolveCache) (a : Area) (s : Snapshot) (words subject out : List 
           )
 
           go : (o : Option ℕ) → findFrom (a .heads) (a .keys) subject 0 (now .used) ≡ o → Decides c a s words subject out (seen o (a .heads) (length out))
-          go none q = (ready, rw (accepted, d) (found none q))
+          go none q = (ready, (n, accepted), rw (accepted, d) (found none q))
           go (some i) q = at i q (ltb (length out) (targetCount (a .heads) i)) refl

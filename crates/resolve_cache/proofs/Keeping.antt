@@ -2,13 +2,13 @@
 use Prim.Native.Nat.{ℕ, zero, suc, _≤_, _<_}
 use native.Mathlib.Omega.{arith}
 use mathlib.Core.Path.{_≡_, refl, sym, _∙_, ap, subst}
-use mathlib.Core.Bool.{Bool, true, false}
+use mathlib.Core.Bool.{Bool, true, false, not}
 use mathlib.Core.List.{List, [], _∷_}
 use lib.Dec.{ltb}
 use lib.ListN.{length, take, drop}
 use lib.Seq.{take-append-seam}
-use borrow.Author.Tests.{ltb-false, lt-ltb, le-ltb}
-use Rattle.subject.specs.Choice.{pick}
+use borrow.Author.Tests.{ltb-false}
+use Rattle.subject.specs.Choice.{pick, or}
 use Rattle.subject.specs.Answers.{Answer, answer, whenAccepted}
 use Rattle.subject.specs.Grammar.{grammar}
 use Rattle.sublist_walk.specs.Walk.{Walked, found, failed}
@@ -27,30 +27,41 @@ use Rattle.resolve_cache.specs.Answers.{left}
 use Rattle.resolve_cache.specs.Deciding.{Ready, Keeps, current, walking}
 use Rattle.resolve_cache.proofs.Decisions.{adopt-used}
 
--- a list is kept or not, as the two lengths say
+-- neither length is over its limit
+neither : (b d : Bool) → not (or b d) ≡ true → (b ≡ false) × (d ≡ false)
+neither true d q = (sym q, absurd (let z : _≡_ {A = ℕ} 0 1 = cc in omega arith))
+neither false true q = (refl, sym q)
+neither false false q = (refl, refl)
+
+sizes : (k m : ℕ) (subject list : List ℕ) → not (or (ltb k (length subject)) (ltb m (length list))) ≡ true → (length subject ≤ k) × (length list ≤ m)
+sizes k m subject list q =
+    let both = neither (ltb k (length subject)) (ltb m (length list)) q in
+    (ltb-false k (length subject) (both .0), ltb-false m (length list) (both .1))
+
+pub kept-sizes : (subject list : List ℕ) → qualifies subject list ≡ true → (length subject ≤ 256) × (length list ≤ 16)
+kept-sizes subject list q = let s = sizes 256 16 subject list q in (omega arith, omega arith)
+
+-- a list is kept or not
 module _ (e : ResolveCache) (a : Area) (subject list : List ℕ) where
-  unkept : qualifies subject list ≡ false → (d : ResolveCache) → d ≡ walked e → Keeps e a subject list (record { cache = d; answer = answers.Walked (length list) }) a
+  pub unkept : qualifies subject list ≡ false → (d : ResolveCache) → d ≡ walked e
+      → Keeps e a subject list (record { cache = d; answer = answers.Walked (length list) }) a
   unkept q d s = record {
     says = refl;
     cache = s ∙ ap (λ b. pick b (grown e) (walked e)) (sym q);
     area = ap (λ b. pick b (keep a (place e a) subject list (ticked e .0)) a) (sym q);
   }
 
-  pub long-unkept : 256 < length subject → (d : ResolveCache) → d ≡ walked e → Keeps e a subject list (record { cache = d; answer = answers.Walked (length list) }) a
-  long-unkept l = unkept (rw (lt-ltb 256 (length subject) l))
-
-  pub many-unkept : length subject ≤ 256 → 16 < length list → (d : ResolveCache) → d ≡ walked e → Keeps e a subject list (record { cache = d; answer = answers.Walked (length list) }) a
-  many-unkept l m = unkept (rw (le-ltb 256 (length subject) l, lt-ltb 16 (length list) m))
-
-  pub list-kept : length subject ≤ 256 → length list ≤ 16 → (i : ℕ) → i ≡ place e a → (t : Tick) → t ≡ ticked e → (after : Area) → after ≡ keep a i subject list (t .0) → (d : ResolveCache) → d ≡ grown e
-      → Keeps e a subject list (record { cache = d; answer = answers.Walked (length list) }) after
-  list-kept l m i p t u after f d s =
-      let q : qualifies subject list ≡ true = rw (le-ltb 256 (length subject) l, le-ltb 16 (length list) m) in
-      record {
-        says = refl;
-        cache = s ∙ ap (λ b. pick b (grown e) (walked e)) (sym q);
-        area = f ∙ ap (λ j. keep a j subject list (t .0)) p ∙ ap (λ k. keep a (place e a) subject list (k .0)) u ∙ ap (λ b. pick b (keep a (place e a) subject list (ticked e .0)) a) (sym q);
-      }
+  pub list-kept : qualifies subject list ≡ true → (i : ℕ) → i ≡ place e a → (t : Tick) → t ≡ ticked e → (after : Area) → after ≡ keep a i subject list (t .0)
+      → (d : ResolveCache) → d ≡ grown e → Keeps e a subject list (record { cache = d; answer = answers.Walked (length list) }) after
+  list-kept q i p t u after f d s = record {
+    says = refl;
+    cache = s ∙ ap (λ b. pick b (grown e) (walked e)) (sym q);
+    area =
+        f
+        ∙ ap (λ j. keep a j subject list (t .0)) p
+        ∙ ap (λ k. keep a (place e a) subject list (k .0)) u
+        ∙ ap (λ b. pick b (keep a (place e a) subject list (ticked e .0)) a) (sym q);
+  }
 
 -- the cache on a generation has room too
 pub ready-current : (g : Generation) (c d : ResolveCache) (a : Area) → d ≡ adopt g c → Ready c a → Ready d a

@@ -6,7 +6,7 @@ use mathlib.Core.List.{List, _++_, append-assoc}
 use lib.ListN.{length, take, drop, getD, length-append, length-drop, take-append-drop, List·getD-append}
 use lib.Seq.{take-append-seam, take-append-le, drop-append-le, drop-append-add, getD-append-add, getD-drop, getD-take, drop-drop, length-take-le, drop-at}
 use Rattle.sublist_walk.specs.Walk.{part}
-use Rattle.resolve_cache.specs.Area.{put}
+use Rattle.sublist_tree.specs.Lists.{put}
 
 part-left : (ys zs : List ℕ) (at n : ℕ) → at + n ≤ length ys → part (ys ++ zs) at n ≡ part ys at n
 part-left ys zs at n h =

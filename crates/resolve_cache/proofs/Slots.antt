@@ -13,7 +13,8 @@ use Rattle.subject.specs.Choice.{pick, or}
 use Rattle.subject.specs.Text.{same}
 use Rattle.sublist_tree.proofs.Bytes.{same-sound, same-whole}
 use Rattle.sublist_walk.specs.Walk.{part}
-use Rattle.resolve_cache.specs.Area.{put, Area, keyLength, targetCount, stampAt, keyAt, targetsAt, keep, touch}
+use Rattle.sublist_tree.specs.Lists.{put}
+use Rattle.resolve_cache.specs.Area.{Area, keyLength, targetCount, stampAt, keyAt, targetsAt, keep, touch}
 use Rattle.resolve_cache.specs.Cache.{short, badFrom, findFrom, oldestFrom}
 use Rattle.resolve_cache.proofs.Put.{length-put, part-put, part-before, part-behind, getD-put-in, getD-put-before, getD-put-behind}
 
@@ -30,7 +31,9 @@ or-false false b e = (refl, e)
 
 pub short-wide : (n : ℕ) (a : Area) → short n a ≡ false → Wide n a
 short-wide n a e =
-    let p = or-false (ltb 1024 n) (or (ltb (length (a .heads)) (3 * n)) (or (ltb (length (a .keys)) (256 * n)) (ltb (length (a .kept)) (16 * n)))) e in
+    let p =
+    or-false (ltb 1024 n)
+    (or (ltb (length (a .heads)) (3 * n)) (or (ltb (length (a .keys)) (256 * n)) (ltb (length (a .kept)) (16 * n)))) e in
     let q = or-false (ltb (length (a .heads)) (3 * n)) (or (ltb (length (a .keys)) (256 * n)) (ltb (length (a .kept)) (16 * n))) (p .1) in
     let r = or-false (ltb (length (a .keys)) (256 * n)) (ltb (length (a .kept)) (16 * n)) (q .1) in
     record {

@@ -5,7 +5,7 @@ use mathlib.Core.Path.{_≡_, _∙_, ap}
 use mathlib.Core.List.{List, [], _∷_, _++_, append-assoc}
 use lib.ListN.{length, getD, set, take, drop}
 use lib.Seq.{paste, paste-suc, take-length, set-split, sets-eq}
-use Rattle.resolve_cache.specs.Area.{put}
+use Rattle.sublist_tree.specs.Lists.{put}
 
 pub write-turn : (to now new : List ℕ) (from i : ℕ) → now ≡ paste to from new i → from + i < length to → i < length new
     → set now (from + i) (getD new i 0) ≡ paste to from new (i + 1)

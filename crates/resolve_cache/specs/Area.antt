@@ -1,12 +1,9 @@
 -- The area of a resolve cache: three lent lists, and what a slot of them says.
 use Prim.Native.Nat.{ℕ, _+_, _*_}
-use mathlib.Core.List.{List, [], _∷_, _++_}
-use lib.ListN.{length, take, drop, getD}
+use mathlib.Core.List.{List, [], _∷_}
+use lib.ListN.{length, getD}
+use Rattle.sublist_tree.specs.Lists.{put}
 use Rattle.sublist_walk.specs.Walk.{part}
-
--- xs with new written over it from a place on
-abbrev pub put : List ℕ → ℕ → List ℕ → List ℕ
-put xs from new = take from xs ++ (new ++ drop (from + length new) xs)
 
 pub record Area : Type 0 where
   -- three numbers a slot: the key's length, the number of targets, the stamp

@@ -36,6 +36,10 @@ pub record Ready (c : ResolveCache) (a : Area) : Type 0 where
   pub fits : c .used ≤ c .capacity
   pub roomy : Roomy (c .capacity) a
 
+-- 1 to 9 do not apply
+abbrev pub Accepted : List ℕ → Type 0
+Accepted subject = (n : ℕ) × (grammar false subject ≡ answer 0 (n ∷ []))
+
 -- the first n slots have keys of at most 256 bytes
 abbrev pub Small : List ℕ → ℕ → Type 0
 Small heads n = (i : ℕ) → i < n → keyLength heads i ≤ 256
@@ -81,4 +85,4 @@ module _ (c : ResolveCache) (a : Area) (s : Snapshot) (words subject out : List 
   abbrev pub Decides : Decision → Type 0
   Decides (Refuse r) = unchanged c a subject out (resolveAnswer r) ≡ resolve c a s words subject out
   Decides (Hit i count) = Ready c a × (i < c .capacity) × (showing i count ≡ resolve c a s words subject out)
-  Decides Walk = Ready c a × (walking ≡ resolve c a s words subject out)
+  Decides Walk = Ready c a × Accepted subject × (walking ≡ resolve c a s words subject out)

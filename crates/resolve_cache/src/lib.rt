@@ -1,5 +1,7 @@
-// The resolve cache: lists found before, kept by subject for one generation of the table. A port of IronBus's ResolveCache.
-// The slots lie in three lent lists: `heads` has three numbers a slot (the key's length, the number of targets, the stamp), `keys` 256 bytes, `kept` 16 targets.
+// The resolve cache: lists found before, kept by subject for one generation of the table.
+// A port of IronBus's ResolveCache.
+// The slots lie in three lent lists: `heads` has three numbers a slot (the key's length, the number of targets, the
+// stamp), `keys` 256 bytes, `kept` 16 targets.
 ghost use mathlib.Core.Path.{_≡_};
 ghost use mathlib.Core.List.{[], _∷_};
 ghost use Prim.Native.Nat.{suc, _+_, _*_, _-_, _≤_, _<_, max};
@@ -8,12 +10,16 @@ ghost use lib.ListN.{length};
 ghost use Rattle.subject.specs.Choice.{pick, or};
 ghost use Rattle.subject.specs.Text.{same};
 ghost use Rattle.subject.specs.Answers.{answer, parsed, whenAccepted};
+ghost use Rattle.sublist_tree.specs.Lists.{put};
 ghost use Rattle.sublist_walk.specs.Walk.{part};
 ghost use Rattle.sublist_snapshot.specs.Snapshot.{wrap};
-ghost use Rattle.resolve_cache.specs.Area.{put, keyLength, targetCount, keyAt, keep};
-ghost use Rattle.resolve_cache.specs.Cache.{short, badFrom, bad, findFrom, oldestFrom, place, withCapacity, newCache, clear, adopt, ticked, hit, walked, grown, handed, resolve};
+ghost use Rattle.resolve_cache.specs.Area.{keyLength, targetCount, keyAt, keep};
+ghost use Rattle.resolve_cache.specs.Cache.{short, badFrom, bad, findFrom, oldestFrom, place};
+ghost use Rattle.resolve_cache.specs.Cache.{withCapacity, newCache, clear, adopt, ticked, hit, walked, grown};
+ghost use Rattle.resolve_cache.specs.Cache.{qualifies, handed, resolve};
 ghost use Rattle.resolve_cache.specs.Answers.{cacheAnswer, resolveAnswer, lent, left, listOf};
-ghost use Rattle.resolve_cache.specs.Deciding.{Roomy, Ready, Small, Passes, slotOf, seen, Keeps, walking, Decides};
+ghost use Rattle.resolve_cache.specs.Deciding.{Roomy, Ready, Accepted, Small, Passes, slotOf, seen, Keeps};
+ghost use Rattle.resolve_cache.specs.Deciding.{walking, Decides};
 use subject::Parsed;
 use subject::SubjectError;
 use sublist_snapshot::Generation;
@@ -81,7 +87,9 @@ impl ResolveCache {
 
     // A fresh cache of so many slots, one at the least, in the lent area.
     pub fn with_capacity(capacity: usize, heads: &[u64], keys: &[u8], kept: &[u32]) -> MadeCache
-        ensures { λ r. ⌜ cacheAnswer r ≡ withCapacity capacity (lent (now (heads .entry)) (now (keys .entry)) (now (kept .entry))) ⌝ }
+        ensures { λ r. ⌜
+            cacheAnswer r
+            ≡ withCapacity capacity (lent (now (heads .entry)) (now (keys .entry)) (now (kept .entry))) ⌝ }
     {
         let slots = at_least_one(capacity);
         if is_short(slots, heads, keys, kept) {
@@ -98,7 +106,9 @@ impl ResolveCache {
 
     // A fresh cache of 1,024 slots.
     pub fn new(heads: &[u64], keys: &[u8], kept: &[u32]) -> MadeCache
-        ensures { λ r. ⌜ cacheAnswer r ≡ newCache (lent (now (heads .entry)) (now (keys .entry)) (now (kept .entry))) ⌝ }
+        ensures { λ r. ⌜
+            cacheAnswer r
+            ≡ newCache (lent (now (heads .entry)) (now (keys .entry)) (now (kept .entry))) ⌝ }
     {
         ResolveCache::with_capacity(ResolveCache::DEFAULT_CAPACITY, heads, keys, kept)
     }
@@ -142,17 +152,15 @@ impl ResolveCache {
     pub fn clear(self) -> ResolveCache
         ensures { λ r. ⌜ r ≡ clear self ⌝ }
     {
-        let generation = self.generation;
-        ResolveCache {
-            capacity: self.capacity,
-            used: 0,
-            generation,
-            tick: Tick(0),
-            walks: self.walks,
-        }
+        let tick = Tick(0);
+        let mut next = self;
+        next.used = 0;
+        next.tick = tick;
+        next
     }
 
-    // The targets of a subject, from the cache or by a walk of the standing table, whose list is then kept. 1 to 9, 17, 18, 19 on the counts; then a hit (21) or a walk (19, 21).
+    // The targets of a subject, from the cache or by a walk of the standing table, whose list is then kept.
+    // 1 to 9, 17, 18, 19 on the counts; then a hit (21) or a walk (19, 21).
     // Only the heads change on a hit; a refusal changes nothing.
     pub fn resolve(
         self,
@@ -164,7 +172,10 @@ impl ResolveCache {
         subject: &[u8],
         out: &mut [u32],
     ) -> Resolved
-        ensures { λ r. ⌜ left r (lent (now (heads .exit)) (now (keys .exit)) (now (kept .exit))) (now (out .exit)) ≡ resolve self (lent (now (heads .entry)) (now (keys .entry)) (now (kept .entry))) snapshot (now (area .entry)) (now (subject .entry)) (now (out .entry)) ⌝ }
+        ensures { λ r. ⌜
+            left r (lent (now (heads .exit)) (now (keys .exit)) (now (kept .exit))) (now (out .exit))
+            ≡ resolve self (lent (now (heads .entry)) (now (keys .entry)) (now (kept .entry)))
+            snapshot (now (area .entry)) (now (subject .entry)) (now (out .entry)) ⌝ }
     {
         match decide(self, heads, keys, kept, snapshot, area, subject, out) {
             Decision::Refuse(answer) => refuse(self, answer),
@@ -175,9 +186,11 @@ impl ResolveCache {
 }
 
 impl ResolveAnswer {
-    // The list that an answer hands back: a part of the cache's targets or of the output, as the resolve left them. A refusal hands back none.
+    // The list that an answer hands back: a part of the cache's targets or of the output, as the resolve left them.
+    // A refusal hands back none.
     pub fn list<'a>(self, kept: &'a [u32], out: &'a [u32]) -> &'a [u32]
-        ensures { λ r. ⌜ now r ≡ listOf (handed (resolveAnswer self) (now (kept .entry)) (now (out .entry))) ⌝ }
+        ensures { λ r. ⌜
+            now r ≡ listOf (handed (resolveAnswer self) (now (kept .entry)) (now (out .entry))) ⌝ }
     {
         match self {
             ResolveAnswer::Kept { from, count } => part(kept, from, count),
@@ -213,7 +226,8 @@ fn at_least_one(capacity: usize) -> usize
 
 // 17: capacity over 1,024, or a list that is too short for so many slots.
 fn is_short(capacity: usize, heads: &[u64], keys: &[u8], kept: &[u32]) -> bool
-    ensures { λ r. ⌜ r ≡ short capacity (lent (now (heads .entry)) (now (keys .entry)) (now (kept .entry))) ⌝ }
+    ensures { λ r. ⌜
+        r ≡ short capacity (lent (now (heads .entry)) (now (keys .entry)) (now (kept .entry))) ⌝ }
 {
     if ResolveCache::DEFAULT_CAPACITY < capacity {
         return true;
@@ -229,8 +243,11 @@ fn is_short(capacity: usize, heads: &[u64], keys: &[u8], kept: &[u32]) -> bool
 
 // A slot with a key over 256 bytes or over 16 targets.
 fn slot_is_bad(heads: &[u64], i: usize) -> bool
-    requires { ⌜ (i < 1024) × (3 * i + 3 ≤ length (now heads)) ⌝ }
-    ensures { λ r. ⌜ r ≡ or (ltb 256 (keyLength (now (heads .entry)) i)) (ltb 16 (targetCount (now (heads .entry)) i)) ⌝ }
+    requires { ⌜
+        (i < 1024)
+        × (3 * i + 3 ≤ length (now heads)) ⌝ }
+    ensures { λ r. ⌜
+        r ≡ or (ltb 256 (keyLength (now (heads .entry)) i)) (ltb 16 (targetCount (now (heads .entry)) i)) ⌝ }
 {
     if SLOT_BYTES < heads[SLOT_NUMBERS * i] as usize {
         return true;
@@ -240,7 +257,10 @@ fn slot_is_bad(heads: &[u64], i: usize) -> bool
 
 // 18 on the slots from a place on: one of them is bad.
 fn has_bad_slot_from(heads: &[u64], from: usize, n: usize) -> bool
-    requires { ⌜ (from ≤ n) × (n ≤ 1024) × (3 * n ≤ length (now heads)) ⌝ }
+    requires { ⌜
+        (from ≤ n)
+        × (n ≤ 1024)
+        × (3 * n ≤ length (now heads)) ⌝ }
     ensures { λ r. ⌜ r ≡ badFrom (now (heads .entry)) from (n - from) ⌝ }
 {
     let mut i = from;
@@ -255,7 +275,9 @@ fn has_bad_slot_from(heads: &[u64], from: usize, n: usize) -> bool
 
 // 18 on the slots: one of the first n has a key over 256 bytes or over 16 targets. Four at a time, then the rest.
 fn has_bad_slot(heads: &[u64], n: usize) -> bool
-    requires { ⌜ (n ≤ 1024) × (3 * n ≤ length (now heads)) ⌝ }
+    requires { ⌜
+        (n ≤ 1024)
+        × (3 * n ≤ length (now heads)) ⌝ }
     ensures { λ r. ⌜ r ≡ badFrom (now (heads .entry)) 0 n ⌝ }
 {
     let mut i = 0;
@@ -280,7 +302,8 @@ fn has_bad_slot(heads: &[u64], n: usize) -> bool
 // 18: capacity is 0, more slots are used than capacity, or a used slot is bad.
 fn is_bad(cache: ResolveCache, heads: &[u64], keys: &[u8], kept: &[u32]) -> bool
     requires { ⌜ Roomy (cache .capacity) (lent (now heads) (now keys) (now kept)) ⌝ }
-    ensures { λ r. ⌜ r ≡ bad cache (lent (now (heads .entry)) (now (keys .entry)) (now (kept .entry))) ⌝ }
+    ensures { λ r. ⌜
+        r ≡ bad cache (lent (now (heads .entry)) (now (keys .entry)) (now (kept .entry))) ⌝ }
 {
     if cache.capacity == 0 {
         return true;
@@ -293,8 +316,13 @@ fn is_bad(cache: ResolveCache, heads: &[u64], keys: &[u8], kept: &[u32]) -> bool
 
 // Whether a slot keeps the list of a subject: the same bytes.
 fn keeps(heads: &[u64], keys: &[u8], i: usize, subject: &[u8]) -> bool
-    requires { ⌜ (i < 1024) × (3 * i + 3 ≤ length (now heads)) × (256 * i + 256 ≤ length (now keys)) × (keyLength (now heads) i ≤ 256) ⌝ }
-    ensures { λ r. ⌜ r ≡ same (keyAt (now (heads .entry)) (now (keys .entry)) i) (now (subject .entry)) ⌝ }
+    requires { ⌜
+        (i < 1024)
+        × (3 * i + 3 ≤ length (now heads))
+        × (256 * i + 256 ≤ length (now keys))
+        × (keyLength (now heads) i ≤ 256) ⌝ }
+    ensures { λ r. ⌜
+        r ≡ same (keyAt (now (heads .entry)) (now (keys .entry)) i) (now (subject .entry)) ⌝ }
 {
     let length = heads[SLOT_NUMBERS * i] as usize;
     let start = SLOT_BYTES * i;
@@ -304,7 +332,10 @@ fn keeps(heads: &[u64], keys: &[u8], i: usize, subject: &[u8]) -> bool
 
 // The first slot from a place on whose key has so many bytes; n if none of the n slots has.
 fn next_of_size(heads: &[u64], from: usize, n: usize, size: usize) -> usize
-    requires { ⌜ (from ≤ n) × (n ≤ 1024) × (3 * n ≤ length (now heads)) ⌝ }
+    requires { ⌜
+        (from ≤ n)
+        × (n ≤ 1024)
+        × (3 * n ≤ length (now heads)) ⌝ }
     ensures { λ r. ⌜ Passes (now (heads .entry)) size from r n ⌝ }
 {
     let mut i = from;
@@ -319,9 +350,13 @@ fn next_of_size(heads: &[u64], from: usize, n: usize, size: usize) -> usize
 
 // The first of n slots that keeps the list of a subject.
 fn find(heads: &[u64], keys: &[u8], n: usize, subject: &[u8]) -> Slot
-    requires { ⌜ (n ≤ 1024) × (3 * n ≤ length (now heads)) × (256 * n ≤ length (now keys)) ⌝ }
+    requires { ⌜
+        (n ≤ 1024)
+        × (3 * n ≤ length (now heads))
+        × (256 * n ≤ length (now keys)) ⌝ }
     requires { ⌜ Small (now heads) n ⌝ }
-    ensures { λ r. ⌜ slotOf r ≡ findFrom (now (heads .entry)) (now (keys .entry)) (now (subject .entry)) 0 n ⌝ }
+    ensures { λ r. ⌜
+        slotOf r ≡ findFrom (now (heads .entry)) (now (keys .entry)) (now (subject .entry)) 0 n ⌝ }
 {
     let size = subject.len();
     let mut i = next_of_size(heads, 0, n, size);
@@ -336,7 +371,10 @@ fn find(heads: &[u64], keys: &[u8], n: usize, subject: &[u8]) -> Slot
 
 // The slot of smallest stamp among the first n, the lowest on a tie.
 fn oldest(heads: &[u64], n: usize) -> usize
-    requires { ⌜ (1 ≤ n) × (n ≤ 1024) × (3 * n ≤ length (now heads)) ⌝ }
+    requires { ⌜
+        (1 ≤ n)
+        × (n ≤ 1024)
+        × (3 * n ≤ length (now heads)) ⌝ }
     ensures { λ r. ⌜ r ≡ oldestFrom (now (heads .entry)) 0 1 (n - 1) ⌝ }
 {
     let mut best = 0;
@@ -353,7 +391,9 @@ fn oldest(heads: &[u64], n: usize) -> usize
 // The slot that a new list goes to: the first unused one, or the one of smallest stamp.
 fn place(cache: ResolveCache, heads: &[u64], keys: &[u8], kept: &[u32]) -> usize
     requires { ⌜ Ready cache (lent (now heads) (now keys) (now kept)) ⌝ }
-    ensures { λ r. ⌜ (r ≡ place cache (lent (now (heads .entry)) (now (keys .entry)) (now (kept .entry)))) × (r < cache .capacity) ⌝ }
+    ensures { λ r. ⌜
+        (r ≡ place cache (lent (now (heads .entry)) (now (keys .entry)) (now (kept .entry))))
+        × (r < cache .capacity) ⌝ }
 {
     if cache.used < cache.capacity {
         return cache.used;
@@ -369,13 +409,12 @@ fn adopt(cache: ResolveCache, generation: Generation) -> ResolveCache
     if own.0 == generation.0 {
         return cache;
     }
-    ResolveCache {
-        capacity: cache.capacity,
-        used: 0, // its lists are another table's
-        generation,
-        tick: Tick(0),
-        walks: cache.walks,
-    }
+    let tick = Tick(0);
+    let mut next = cache;
+    next.used = 0; // its lists are another table's
+    next.generation = generation;
+    next.tick = tick;
+    next
 }
 
 fn next_tick(cache: ResolveCache) -> Tick
@@ -395,35 +434,25 @@ fn next_walks(cache: ResolveCache) -> u64
 fn hit(cache: ResolveCache) -> ResolveCache
     ensures { λ r. ⌜ r ≡ hit cache ⌝ }
 {
-    let generation = cache.generation;
     let tick = next_tick(cache);
-    ResolveCache {
-        capacity: cache.capacity,
-        used: cache.used,
-        generation,
-        tick,
-        walks: cache.walks,
-    }
+    let mut next = cache;
+    next.tick = tick; // and no walk is counted
+    next
 }
 
 // The cache after a walk that keeps nothing.
 fn walked(cache: ResolveCache) -> ResolveCache
     ensures { λ r. ⌜ r ≡ walked cache ⌝ }
 {
-    let generation = cache.generation;
-    let tick = next_tick(cache);
-    ResolveCache {
-        capacity: cache.capacity,
-        used: cache.used,
-        generation,
-        tick,
-        walks: next_walks(cache),
-    }
+    let mut next = hit(cache);
+    next.walks = next_walks(cache);
+    next
 }
 
 // How many slots are used once one more list is kept.
 fn used_after(cache: ResolveCache) -> usize
-    ensures { λ r. ⌜ r ≡ pick (ltb (cache .used) (cache .capacity)) (suc (cache .used)) (cache .used) ⌝ }
+    ensures { λ r. ⌜
+        r ≡ pick (ltb (cache .used) (cache .capacity)) (suc (cache .used)) (cache .used) ⌝ }
 {
     if cache.used < cache.capacity {
         return cache.used + 1;
@@ -435,21 +464,16 @@ fn used_after(cache: ResolveCache) -> usize
 fn grown(cache: ResolveCache) -> ResolveCache
     ensures { λ r. ⌜ r ≡ grown cache ⌝ }
 {
-    let generation = cache.generation;
-    let tick = next_tick(cache);
-    let used = used_after(cache);
-    ResolveCache {
-        capacity: cache.capacity,
-        used,
-        generation,
-        tick,
-        walks: next_walks(cache),
-    }
+    let mut next = walked(cache);
+    next.used = used_after(cache);
+    next
 }
 
 // A slot is stamped.
 fn touch(heads: &mut [u64], i: usize, stamp: u64)
-    requires { ⌜ (i < 1024) × (3 * i + 3 ≤ length (now heads)) ⌝ }
+    requires { ⌜
+        (i < 1024)
+        × (3 * i + 3 ≤ length (now heads)) ⌝ }
     ensures { λ _. ⌜ now (heads .exit) ≡ put (now (heads .entry)) (3 * i + 2) (stamp ∷ []) ⌝ }
 {
     heads[SLOT_NUMBERS * i + 2] = stamp;
@@ -479,8 +503,11 @@ fn put_words(to: &mut [u32], from: usize, new: &[u32])
 
 // A slot's numbers: the key's length, the number of targets, the stamp.
 fn put_head(heads: &mut [u64], i: usize, size: usize, count: usize, stamp: u64)
-    requires { ⌜ (i < 1024) × (3 * i + 3 ≤ length (now heads)) ⌝ }
-    ensures { λ _. ⌜ now (heads .exit) ≡ put (now (heads .entry)) (3 * i) (size ∷ count ∷ stamp ∷ []) ⌝ }
+    requires { ⌜
+        (i < 1024)
+        × (3 * i + 3 ≤ length (now heads)) ⌝ }
+    ensures { λ _. ⌜
+        now (heads .exit) ≡ put (now (heads .entry)) (3 * i) (size ∷ count ∷ stamp ∷ []) ⌝ }
 {
     heads[SLOT_NUMBERS * i] = size as u64;
     heads[SLOT_NUMBERS * i + 1] = count as u64;
@@ -497,16 +524,37 @@ fn keep(
     list: &[u32],
     stamp: u64,
 )
-    requires { ⌜ (i < 1024) × (3 * i + 3 ≤ length (now heads)) × (256 * i + 256 ≤ length (now keys)) × (16 * i + 16 ≤ length (now kept)) ⌝ }
-    requires { ⌜ (length (now subject) ≤ 256) × (length (now list) ≤ 16) ⌝ }
-    ensures { λ _. ⌜ lent (now (heads .exit)) (now (keys .exit)) (now (kept .exit)) ≡ keep (lent (now (heads .entry)) (now (keys .entry)) (now (kept .entry))) i (now (subject .entry)) (now (list .entry)) stamp ⌝ }
+    requires { ⌜
+        (i < 1024)
+        × (3 * i + 3 ≤ length (now heads))
+        × (256 * i + 256 ≤ length (now keys))
+        × (16 * i + 16 ≤ length (now kept))
+        × (length (now subject) ≤ 256)
+        × (length (now list) ≤ 16) ⌝ }
+    ensures { λ _. ⌜
+        lent (now (heads .exit)) (now (keys .exit)) (now (kept .exit))
+        ≡ keep (lent (now (heads .entry)) (now (keys .entry)) (now (kept .entry)))
+        i (now (subject .entry)) (now (list .entry)) stamp ⌝ }
 {
     put_head(heads, i, subject.len(), list.len(), stamp);
     put_bytes(keys, SLOT_BYTES * i, subject);
     put_words(kept, SLOT_TARGETS * i, list);
 }
 
-// The list of a walk is kept, unless the subject has over 256 bytes or the list over 16 targets. The cache is on the standing table's generation.
+// Whether a list is kept: the subject has no more than 256 bytes and the list no more than 16 targets.
+fn qualifies(subject: &[u8], list: &[u32]) -> bool
+    ensures { λ r. ⌜ r ≡ qualifies (now (subject .entry)) (now (list .entry)) ⌝ }
+{
+    if SLOT_BYTES < subject.len() {
+        return false;
+    }
+    if SLOT_TARGETS < list.len() {
+        return false;
+    }
+    true
+}
+
+// The list of a walk is kept, if it qualifies. The cache is on the standing table's generation.
 fn keep_list(
     cache: ResolveCache,
     heads: &mut [u64],
@@ -516,17 +564,14 @@ fn keep_list(
     list: &[u32],
 ) -> Resolved
     requires { ⌜ Ready cache (lent (now heads) (now keys) (now kept)) ⌝ }
-    ensures { λ r. ⌜ Keeps cache (lent (now (heads .entry)) (now (keys .entry)) (now (kept .entry))) (now (subject .entry)) (now (list .entry)) r (lent (now (heads .exit)) (now (keys .exit)) (now (kept .exit))) ⌝ }
+    ensures { λ r. ⌜
+        Keeps cache (lent (now (heads .entry)) (now (keys .entry)) (now (kept .entry)))
+        (now (subject .entry)) (now (list .entry))
+        r (lent (now (heads .exit)) (now (keys .exit)) (now (kept .exit))) ⌝ }
 {
     let count = list.len();
     let answer = ResolveAnswer::Walked { count };
-    if SLOT_BYTES < subject.len() {
-        return Resolved {
-            cache: walked(cache),
-            answer,
-        };
-    }
-    if SLOT_TARGETS < count {
+    if !qualifies(subject, list) {
         return Resolved {
             cache: walked(cache),
             answer,
@@ -541,7 +586,7 @@ fn keep_list(
     }
 }
 
-// The standing table is walked into the output.
+// The standing table is walked into the output, for a subject that was parsed.
 fn walk(
     cache: ResolveCache,
     heads: &mut [u64],
@@ -553,10 +598,14 @@ fn walk(
     out: &mut [u32],
 ) -> Resolved
     requires { ⌜ Ready cache (lent (now heads) (now keys) (now kept)) ⌝ }
-    ensures { λ r. ⌜ left r (lent (now (heads .exit)) (now (keys .exit)) (now (kept .exit))) (now (out .exit)) ≡ walking cache (lent (now (heads .entry)) (now (keys .entry)) (now (kept .entry))) snapshot (now (area .entry)) (now (subject .entry)) (now (out .entry)) ⌝ }
+    requires { ⌜ Accepted (now subject) ⌝ }
+    ensures { λ r. ⌜
+        left r (lent (now (heads .exit)) (now (keys .exit)) (now (kept .exit))) (now (out .exit))
+        ≡ walking cache (lent (now (heads .entry)) (now (keys .entry)) (now (kept .entry)))
+        snapshot (now (area .entry)) (now (subject .entry)) (now (out .entry)) ⌝ }
 {
     let current = adopt(cache, snapshot.generation());
-    match snapshot.match_into(area, subject, out) {
+    match snapshot.match_parsed(area, subject, out) {
         SnapshotMatch::Invalid(e) => refuse(cache, ResolveAnswer::Invalid(e)),
         SnapshotMatch::Damaged => refuse(cache, ResolveAnswer::Damaged),
         SnapshotMatch::OutShort(needed) => refuse(cache, ResolveAnswer::OutShort(needed)),
@@ -576,8 +625,14 @@ fn show(
     slot: usize,
     count: usize,
 ) -> Resolved
-    requires { ⌜ (slot < 1024) × (3 * slot + 3 ≤ length (now heads)) ⌝ }
-    ensures { λ r. ⌜ (r .answer ≡ ResolveAnswer.Kept (16 * slot) count) × (r .cache ≡ hit (adopt (snapshot .generation) cache)) × (now (heads .exit) ≡ put (now (heads .entry)) (3 * slot + 2) (ticked (adopt (snapshot .generation) cache) .0 ∷ [])) ⌝ }
+    requires { ⌜
+        (slot < 1024)
+        × (3 * slot + 3 ≤ length (now heads)) ⌝ }
+    ensures { λ r. ⌜
+        (r .answer ≡ ResolveAnswer.Kept (16 * slot) count)
+        × (r .cache ≡ hit (adopt (snapshot .generation) cache))
+        × (now (heads .exit)
+        ≡ put (now (heads .entry)) (3 * slot + 2) (ticked (adopt (snapshot .generation) cache) .0 ∷ [])) ⌝ }
 {
     let current = adopt(cache, snapshot.generation());
     let stamp = next_tick(current);
@@ -593,7 +648,9 @@ fn show(
 
 // A refused resolve leaves the cache as it was.
 fn refuse(cache: ResolveCache, answer: ResolveAnswer) -> Resolved
-    ensures { λ r. ⌜ (r .cache ≡ cache) × (r .answer ≡ answer) ⌝ }
+    ensures { λ r. ⌜
+        (r .cache ≡ cache)
+        × (r .answer ≡ answer) ⌝ }
 {
     Resolved { cache, answer }
 }
@@ -610,9 +667,15 @@ fn refused(text: Parsed) -> ResolveAnswer
 
 // A subject is looked for in the first n slots.
 fn look_up(heads: &[u64], keys: &[u8], n: usize, subject: &[u8], room: usize) -> Decision
-    requires { ⌜ (n ≤ 1024) × (3 * n ≤ length (now heads)) × (256 * n ≤ length (now keys)) ⌝ }
+    requires { ⌜
+        (n ≤ 1024)
+        × (3 * n ≤ length (now heads))
+        × (256 * n ≤ length (now keys)) ⌝ }
     requires { ⌜ Small (now heads) n ⌝ }
-    ensures { λ r. ⌜ r ≡ seen (findFrom (now (heads .entry)) (now (keys .entry)) (now (subject .entry)) 0 n) (now (heads .entry)) room ⌝ }
+    ensures { λ r. ⌜
+        r
+        ≡ seen (findFrom (now (heads .entry)) (now (keys .entry)) (now (subject .entry)) 0 n)
+        (now (heads .entry)) room ⌝ }
 {
     match find(heads, keys, n, subject) {
         Slot::Nothing => Decision::Walk,
@@ -637,7 +700,9 @@ fn decide(
     subject: &[u8],
     out: &[u32],
 ) -> Decision
-    ensures { λ r. ⌜ Decides cache (lent (now (heads .entry)) (now (keys .entry)) (now (kept .entry))) snapshot (now (area .entry)) (now (subject .entry)) (now (out .entry)) r ⌝ }
+    ensures { λ r. ⌜
+        Decides cache (lent (now (heads .entry)) (now (keys .entry)) (now (kept .entry)))
+        snapshot (now (area .entry)) (now (subject .entry)) (now (out .entry)) r ⌝ }
 {
     let text = subject::parse_literal(subject);
     let Parsed::Accepted(_) = text else {

@@ -3,21 +3,24 @@ use Prim.Native.Nat.{ℕ, zero, suc, _+_, _*_, _-_, _≤_, min}
 use native.Mathlib.Omega.{arith}
 use mathlib.Core.Path.{_≡_, refl, sym, _∙_, ap}
 use mathlib.Core.Bool.{Bool, true, false}
-use mathlib.Core.List.{List, []}
+use mathlib.Core.List.{List, [], _∷_}
 use lib.Dec.{leb}
 use lib.ListN.{length, take, drop, length-drop, drop-of-length-le}
 use lib.Seq.{take-all}
 use borrow.Author.Tests.{leb-true, leb-false, le-leb, lt-leb}
 use Rattle.subject.specs.declared.SubjectError.{SubjectError}
-use Rattle.subject.specs.declared.Parsed.the-variants.{Refused}
-use Rattle.subject.specs.Answers.{Answer, answer, refusal, whenAccepted}
+use Rattle.subject.specs.declared.Parsed.{Parsed}
+use Rattle.subject.specs.declared.Parsed.the-variants.{Accepted, Refused}
+use Rattle.subject.specs.Answers.{Answer, answer, refusal, parsed, whenAccepted}
+use Rattle.subject.specs.Grammar.{grammar}
 use Rattle.subject.proofs.Refusals.{refused-stands}
 use Rattle.sublist_walk.specs.declared.TableMatch.{TableMatch}
 use Rattle.sublist_walk.specs.declared.TableMatch.the-variants.{Invalid}
-use Rattle.sublist_walk.specs.Matching.{matchAnswer, outcome, matchTable}
+use Rattle.sublist_walk.proofs.Writing.{parsed-same, subject-refused}
+use Rattle.sublist_walk.specs.Matching.{Outcome, matchAnswer, outcome, ifSubject, matchTable, matchParsed}
 use Rattle.sublist_snapshot.specs.declared.Generation.{Generation}
 use Rattle.sublist_snapshot.specs.declared.Snapshot.{Snapshot}
-use Rattle.sublist_snapshot.specs.Snapshot.{nodesIn, targetsIn, withGeneration, matchIn}
+use Rattle.sublist_snapshot.specs.Snapshot.{nodesIn, targetsIn, withGeneration, matchIn, matchParsedIn}
 
 take-min : (n : ℕ) (l : List ℕ) → take (min n (length l)) l ≡ take n l
 take-min n l = go (leb n (length l)) refl
@@ -64,13 +67,36 @@ module _ (s : Snapshot) (area : List ℕ) (front size : ℕ) (f : front ≡ min 
 
   -- what a match on the two parts answers, with the generation
   pub through : (subject out left : List ℕ) (r m : TableMatch) → outcome (matchAnswer r) left
-      ≡ matchTable (s .nodes) (s .targets) (take front area) (take (front + size - front) (drop front area)) subject out
-      → r ≡ m → withGeneration (s .generation) (outcome (matchAnswer m) left) ≡ matchIn s area subject out
-  unfolding matchIn
+      ≡ matchParsed (s .nodes) (s .targets) (take front area) (take (front + size - front) (drop front area)) subject out
+      → r ≡ m → withGeneration (s .generation) (outcome (matchAnswer m) left) ≡ matchParsedIn s area subject out
+  unfolding matchParsedIn
   through subject out left r m e q =
       ap (withGeneration (s .generation)) (
       ap (λ x. outcome (matchAnswer x) left) (sym q)
       ∙ e
-      ∙ ap (λ a. matchTable (s .nodes) (s .targets) a (take (front + size - front) (drop front area)) subject out) nodes-part
-      ∙ ap (λ ts. matchTable (s .nodes) (s .targets) (nodesIn (s .nodes) area) ts subject out) targets-part
+      ∙ ap (λ a. matchParsed (s .nodes) (s .targets) a (take (front + size - front) (drop front area)) subject out) nodes-part
+      ∙ ap (λ ts. matchParsed (s .nodes) (s .targets) (nodesIn (s .nodes) area) ts subject out) targets-part
       )
+
+-- for an accepted subject it is the match
+pub parsed-match : (s : Snapshot) (area subject out values : List ℕ) → grammar false subject ≡ answer 0 values
+    → matchParsedIn s area subject out ≡ matchIn s area subject out
+unfolding matchIn matchParsedIn
+parsed-match s area subject out values e =
+    ap (withGeneration (s .generation))
+    (parsed-same (s .nodes) (s .targets) (nodesIn (s .nodes) area) (targetsIn (s .nodes) (s .targets) area) subject out values e)
+
+-- a match by the subject's parse
+module _ (s : Snapshot) (area subject out : List ℕ) (text : Parsed) (p : parsed text ≡ grammar false subject) where
+  pub match-accepted : (n : ℕ) → text ≡ Accepted n → (x : Outcome) → x ≡ matchParsedIn s area subject out → x ≡ matchIn s area subject out
+  match-accepted n t x e = e ∙ parsed-match s area subject out (n ∷ []) (sym p ∙ ap parsed t)
+
+  pub match-refused : (e : SubjectError) → text ≡ Refused e → (r : Answer) → r ≡ whenAccepted (parsed text) (answer 19 [])
+      → outcome r out ≡ matchIn s area subject out
+  unfolding matchIn
+  match-refused e t r q =
+      let same : r ≡ refusal e = q ∙ sym (refused-stands text e (answer 19 []) t) in
+      rw same
+      (sym (refusal-stays (s .generation) e out)
+      ∙ ap (withGeneration (s .generation))
+      (subject-refused (s .nodes) (s .targets) (nodesIn (s .nodes) area) (targetsIn (s .nodes) (s .targets) area) subject out text p e t (refusal e) (sym same ∙ q)))

@@ -17,7 +17,7 @@ use Rattle.sublist_walk.specs.Matching.{over, countsFit}
 use Rattle.sublist_snapshot.specs.declared.Snapshot.{Snapshot}
 use Rattle.sublist_snapshot.specs.declared.Copied.{Copied}
 use Rattle.sublist_snapshot.specs.Snapshot.{Table, refusedTable, Made, madeBy, make, Stored, storedBy, storeIn}
-use Rattle.sublist_snapshot.specs.Copying.{copyRefusal, areaAfter}
+use Rattle.sublist_snapshot.specs.Copying.{copyRefusal, Copy, copyBy, copyTable, leftCopied}
 
 -- counts that fit
 pub record Fit (n m : ℕ) (a ts : List ℕ) : Type 0 where
@@ -50,27 +50,31 @@ module _ (area front behind : List ℕ) (k m : ℕ) (f : k ≤ length front) (g 
       ∙ ap (λ n. (take k front ++ take m behind) ++ drop n area) (sym size)
 
 -- a call that copies a table, or does not, answers and leaves what the definition says
-module _ (t : Table) (area left : List ℕ) (r m : Copied) (q : r ≡ m) (e : copyRefusal r ≡ refusedTable t area) (f : left ≡ areaAfter (copyRefusal r) t area) where
-  same-refusal : copyRefusal m ≡ refusedTable t area
-  same-refusal = ap copyRefusal (sym q) ∙ e
+module _ (t : Table) (area left : List ℕ) (r m : Copied) (q : r ≡ m) (e : leftCopied r left ≡ copyTable t area) where
+  as-told : leftCopied m left ≡ copyTable t area
+  as-told = ap (λ x. leftCopied x left) (sym q) ∙ e
 
-  same-area : left ≡ areaAfter (copyRefusal m) t area
-  same-area = f ∙ ap (λ x. areaAfter (copyRefusal x) t area) q
+  making : Copy → Made
+  making x = record { says = (madeBy (x .refusal) t area) .says; area = x .area }
 
-  made-area : (o : Option Answer) → areaAfter o t area ≡ (madeBy o t area) .area
-  made-area none = refl
-  made-area (some x) = refl
+  made-by : (o : Option Answer) → making (copyBy o t area) ≡ madeBy o t area
+  unfolding making
+  made-by none = refl
+  made-by (some x) = refl
 
   pub made-as : _≡_ {A = Made} (record { says = (madeBy (copyRefusal m) t area) .says; area = left }) (make t area)
-  unfolding make
-  made-as = ap (λ (l : List ℕ). record { says = (madeBy (copyRefusal m) t area) .says; area = l }) (same-area ∙ made-area (copyRefusal m)) ∙ ap (λ o. madeBy o t area) same-refusal
+  unfolding make making
+  made-as = ap making as-told ∙ made-by (refusedTable t area)
 
-  stored-area : (s : Snapshot) (o : Option Answer) → areaAfter o t area ≡ (storedBy o s area t) .area
-  stored-area s none = refl
-  stored-area s (some x) = refl
+  module _ (s : Snapshot) where
+    storing : Copy → Stored
+    storing x = let after = storedBy (x .refusal) s area t in record { says = after .says; snapshot = after .snapshot; area = x .area }
 
-  pub stored-as : (s : Snapshot) → _≡_ {A = Stored} (record { says = (storedBy (copyRefusal m) s area t) .says; snapshot = (storedBy (copyRefusal m) s area t) .snapshot; area = left }) (storeIn s area t)
-  unfolding storeIn
-  stored-as s =
-      ap (λ (l : List ℕ). record { says = (storedBy (copyRefusal m) s area t) .says; snapshot = (storedBy (copyRefusal m) s area t) .snapshot; area = l }) (same-area ∙ stored-area s (copyRefusal m))
-      ∙ ap (λ o. storedBy o s area t) same-refusal
+    stored-by : (o : Option Answer) → storing (copyBy o t area) ≡ storedBy o s area t
+    unfolding storing
+    stored-by none = refl
+    stored-by (some x) = refl
+
+    pub stored-as : let after = storedBy (copyRefusal m) s area t in _≡_ {A = Stored} (record { says = after .says; snapshot = after .snapshot; area = left }) (storeIn s area t)
+    unfolding storeIn storing
+    stored-as = ap storing as-told ∙ stored-by (refusedTable t area)

@@ -32,13 +32,19 @@ snapshotAnswer Damaged = answer 19 []
 snapshotAnswer (OutShort needed) = answer 21 (needed ∷ [])
 
 -- a table with its two lent areas
-abbrev pub lent : Sublist → List ℕ → List ℕ → Table
-lent t nodeWords targetWords = record { nodes = t .nodes; targets = t .targets; generation = t .generation; nodeWords = nodeWords; targetWords = targetWords }
+abbrev pub lentTable : Sublist → List ℕ → List ℕ → Table
+lentTable t nodeWords targetWords = record {
+  nodes = t .nodes;
+  targets = t .targets;
+  generation = t .generation;
+  nodeWords = nodeWords;
+  targetWords = targetWords;
+}
 
 -- what a making answered, and the area as it left it
 abbrev pub made : MadeSnapshot → List ℕ → Made
 made r area = record { says = madeAnswer r; area = area }
 
 -- what a store returned, and the area as it left it
-abbrev pub left : Returned → List ℕ → Stored
-left r area = record { says = storeAnswer (r .answer); snapshot = r .snapshot; area = area }
+abbrev pub leftStored : Returned → List ℕ → Stored
+leftStored r area = record { says = storeAnswer (r .answer); snapshot = r .snapshot; area = area }

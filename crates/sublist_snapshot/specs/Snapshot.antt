@@ -10,7 +10,7 @@ use Rattle.subject.specs.Text.{tokens}
 use Rattle.subject.specs.Fnv.{fnv}
 use Rattle.subject.specs.Answers.{Answer, answer}
 use Rattle.sublist_walk.specs.Walk.{part, Walked, walkOver}
-use Rattle.sublist_walk.specs.Matching.{over, countsFit, Outcome, outcome, matchTable}
+use Rattle.sublist_walk.specs.Matching.{over, countsFit, Outcome, outcome, matchTable, matchParsed}
 use Rattle.sublist_snapshot.specs.declared.Generation.{Generation}
 use Rattle.sublist_snapshot.specs.declared.Snapshot.{Snapshot}
 
@@ -117,3 +117,9 @@ unfoldable pub matchIn : Snapshot → List ℕ → List ℕ → List ℕ → Out
 matchIn s area subject out =
     withGeneration (s .generation)
     (matchTable (s .nodes) (s .targets) (nodesIn (s .nodes) area) (targetsIn (s .nodes) (s .targets) area) subject out)
+
+-- the match of a subject that was parsed before: 1 is asked again, of any text that is lent
+unfoldable pub matchParsedIn : Snapshot → List ℕ → List ℕ → List ℕ → Outcome
+matchParsedIn s area subject out =
+    withGeneration (s .generation)
+    (matchParsed (s .nodes) (s .targets) (nodesIn (s .nodes) area) (targetsIn (s .nodes) (s .targets) area) subject out)

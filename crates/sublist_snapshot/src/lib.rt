@@ -1,12 +1,16 @@
-// The snapshot: the table that stands, by its counts and generation, with its words in a lent area. A port of IronBus's SublistSnapshot.
+// The snapshot: the table that stands, by its counts and generation, with its words in a lent area.
+// A port of IronBus's SublistSnapshot.
 ghost use mathlib.Core.Path.{_≡_};
 ghost use Prim.Native.Nat.{_+_, _*_, _≤_, min};
 ghost use lib.ListN.{length};
 ghost use lib.Seq.{paste};
+ghost use mathlib.Core.List.{[]};
+ghost use Rattle.subject.specs.Answers.{answer, parsed, whenAccepted};
 ghost use Rattle.sublist_walk.specs.Matching.{outcome};
-ghost use Rattle.sublist_snapshot.specs.Snapshot.{refusedTable, make, makeEmpty, storeIn, standsIn, matchIn};
-ghost use Rattle.sublist_snapshot.specs.Answers.{snapshotAnswer, lent, made, left};
-ghost use Rattle.sublist_snapshot.specs.Copying.{copyRefusal, areaAfter};
+ghost use Rattle.sublist_snapshot.specs.Snapshot.{make, makeEmpty, storeIn, standsIn, matchIn, matchParsedIn};
+ghost use Rattle.sublist_snapshot.specs.Answers.{snapshotAnswer, lentTable, made, leftStored};
+ghost use Rattle.sublist_snapshot.specs.Copying.{copyTable, leftCopied};
+use subject::Parsed;
 use subject::SubjectError;
 use sublist_walk::TableMatch;
 
@@ -91,7 +95,9 @@ impl Snapshot {
         target_words: &[u32],
         area: &mut [u32],
     ) -> MadeSnapshot
-        ensures { λ r. ⌜ made r (now (area .exit)) ≡ make (lent table (now («node_words» .entry)) (now («target_words» .entry))) (now (area .entry)) ⌝ }
+        ensures { λ r. ⌜
+            made r (now (area .exit))
+            ≡ make (lentTable table (now («node_words» .entry)) (now («target_words» .entry))) (now (area .entry)) ⌝ }
     {
         match copy_table(table, node_words, target_words, area) {
             Copied::Damaged => MadeSnapshot::Damaged,
@@ -112,7 +118,7 @@ impl Snapshot {
     pub fn empty(area: &mut [u32]) -> MadeSnapshot
         ensures { λ r. ⌜ made r (now (area .exit)) ≡ makeEmpty (now (area .entry)) ⌝ }
     {
-        let root = [0u32; 16];
+        let root = [0u32; sublist_area::NODE_WORDS];
         let words = &root[..];
         let table = Sublist {
             nodes: 1,
@@ -124,7 +130,10 @@ impl Snapshot {
 
     // The standing table, by its counts and generation.
     pub fn load(self) -> Sublist
-        ensures { λ r. ⌜ (r .nodes ≡ self .nodes) × (r .targets ≡ self .targets) × (r .generation ≡ self .generation) ⌝ }
+        ensures { λ r. ⌜
+            (r .nodes ≡ self .nodes)
+            × (r .targets ≡ self .targets)
+            × (r .generation ≡ self .generation) ⌝ }
     {
         let generation = self.generation;
         Sublist {
@@ -141,7 +150,8 @@ impl Snapshot {
         self.generation
     }
 
-    // A table takes the place of the standing one: it is copied to the area and stamped with the counter. 19, then 20.
+    // A table takes the place of the standing one: it is copied to the area and stamped with the counter.
+    // 19, then 20.
     pub fn store(
         self,
         table: Sublist,
@@ -149,7 +159,10 @@ impl Snapshot {
         target_words: &[u32],
         area: &mut [u32],
     ) -> Stored
-        ensures { λ r. ⌜ left r (now (area .exit)) ≡ storeIn self (now (area .entry)) (lent table (now («node_words» .entry)) (now («target_words» .entry))) ⌝ }
+        ensures { λ r. ⌜
+            leftStored r (now (area .exit))
+            ≡ storeIn self (now (area .entry))
+            (lentTable table (now («node_words» .entry)) (now («target_words» .entry))) ⌝ }
     {
         match copy_table(table, node_words, target_words, area) {
             Copied::Damaged => Stored {
@@ -190,14 +203,30 @@ impl Snapshot {
         self.targets <= area.len() - self.nodes * sublist_area::NODE_WORDS
     }
 
-    // The list of the targets that a subject matches in the standing table, written over the first places of the output: 1 to 9, then 19, then 21.
+    // The list of the targets that a subject matches in the standing table, written over the first places of the output:
+    // 1 to 9, then 19, then 21.
     pub fn match_into(self, area: &[u32], subject: &[u8], out: &mut [u32]) -> SnapshotMatch
-        ensures { λ r. ⌜ outcome (snapshotAnswer r) (now (out .exit)) ≡ matchIn self (now (area .entry)) (now (subject .entry)) (now (out .entry)) ⌝ }
+        ensures { λ r. ⌜
+            outcome (snapshotAnswer r) (now (out .exit))
+            ≡ matchIn self (now (area .entry)) (now (subject .entry)) (now (out .entry)) ⌝ }
+    {
+        let text = subject::parse_literal(subject);
+        let Parsed::Accepted(_) = text else {
+            return refused_subject(text);
+        };
+        self.match_parsed(area, subject, out)
+    }
+
+    // The match of a subject that the caller has parsed: 1 for a text that no parse accepts, then 19, then 21.
+    pub fn match_parsed(self, area: &[u32], subject: &[u8], out: &mut [u32]) -> SnapshotMatch
+        ensures { λ r. ⌜
+            outcome (snapshotAnswer r) (now (out .exit))
+            ≡ matchParsedIn self (now (area .entry)) (now (subject .entry)) (now (out .entry)) ⌝ }
     {
         let front = front_of(self.nodes, area.len());
         let end = front + smaller(self.targets, area.len() - front);
         let generation = self.generation;
-        match sublist_walk::match_table(
+        match sublist_walk::match_parsed(
             self.nodes,
             self.targets,
             &area[..front],
@@ -214,6 +243,16 @@ impl Snapshot {
             TableMatch::Damaged => SnapshotMatch::Damaged,
             TableMatch::OutShort(needed) => SnapshotMatch::OutShort(needed),
         }
+    }
+}
+
+// The refusal of a subject's text, as that of a match.
+fn refused_subject(text: Parsed) -> SnapshotMatch
+    ensures { λ r. ⌜ snapshotAnswer r ≡ whenAccepted (parsed text) (answer 19 []) ⌝ }
+{
+    match text {
+        Parsed::Accepted(_) => SnapshotMatch::Damaged,
+        Parsed::Refused(e) => SnapshotMatch::Invalid(e),
     }
 }
 
@@ -235,7 +274,9 @@ fn front_of(nodes: usize, words: usize) -> usize
 
 // The first n words are written over others, from a place on.
 fn copy_words(to: &mut [u32], at: usize, from: &[u32], n: usize)
-    requires { ⌜ (at + n ≤ length (now to)) × (n ≤ length (now from)) ⌝ }
+    requires { ⌜
+        (at + n ≤ length (now to))
+        × (n ≤ length (now from)) ⌝ }
     ensures { λ _. ⌜ now (to .exit) ≡ paste (now (to .entry)) at (now (from .entry)) n ⌝ }
 {
     let mut i = 0;
@@ -247,7 +288,9 @@ fn copy_words(to: &mut [u32], at: usize, from: &[u32], n: usize)
 
 // A table is copied to the front of the snapshot's area, node words and then target words: 19, then 20.
 fn copy_table(table: Sublist, node_words: &[u32], target_words: &[u32], area: &mut [u32]) -> Copied
-    ensures { λ r. ⌜ (copyRefusal r ≡ refusedTable (lent table (now («node_words» .entry)) (now («target_words» .entry))) (now (area .entry))) × (now (area .exit) ≡ areaAfter (copyRefusal r) (lent table (now («node_words» .entry)) (now («target_words» .entry))) (now (area .entry))) ⌝ }
+    ensures { λ r. ⌜
+        leftCopied r (now (area .exit))
+        ≡ copyTable (lentTable table (now («node_words» .entry)) (now («target_words» .entry))) (now (area .entry)) ⌝ }
 {
     if !sublist_walk::counts_fit(table.nodes, table.targets, node_words, target_words) {
         return Copied::Damaged;

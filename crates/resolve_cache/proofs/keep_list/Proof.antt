@@ -1,69 +1,61 @@
 -- `resolve_cache::keep_list` meets its contract. Assumes nothing.
+use native.Mathlib.Omega.{arith}
+use mathlib.Core.Path.{_≡_, sym, _∙_}
+use mathlib.Core.Bool.{true}
 use borrow.Author.Needs.{needs}
+use borrow.Author.Tests.{not-true, not-false}
+use Rattle.resolve_cache.specs.Cache.{qualifies}
 use Rattle.resolve_cache.specs.Answers.{lent}
-use Rattle.resolve_cache.proofs.Keeping.{long-unkept, many-unkept, list-kept}
+use Rattle.resolve_cache.proofs.Keeping.{kept-sizes, unkept, list-kept}
 use Rattle.resolve_cache.proofs.keep_list.Statement.{statement}
 use Rattle.resolve_cache.proofs.keep_list.Tie as tie
 
-walked-requires : tie.Need-walked-requires
-walked-requires c κs = search needs
+-- the list is to be kept
+fits : (x : tie.Else1) → let a = x .before .before .before .before .before .before .before .args in qualifies (a .subject .now) (a .list .now) ≡ true
+fits x = let q = x .before .qualifies in sym (q .ensures) ∙ not-false (q .result) (x .if1 .left)
 
 returns : tie.Need-returns
 returns c =
-    let a = c .before .before .before .before .before .before .before .args in
-    long-unkept (a .cache) (lent (a .heads .now) (a .keys .now) (a .kept .now)) (a .subject .now) (a .list .now) (c .before .if1 .taken) (c .walked .result) (c .walked .ensures)
+    let k = c .before .before in
+    let a = k .before .before .before .before .before .before .args in
+    let q = k .qualifies in
+    unkept (a .cache) (lent (a .heads .now) (a .keys .now) (a .kept .now)) (a .subject .now) (a .list .now)
+    (sym (q .ensures) ∙ not-true (q .result) (c .before .if1 .taken)) (c .walked .result) (c .walked .ensures)
 
-walked-requires-2 : tie.Need-walked-requires-2
-walked-requires-2 c κs = search needs
+keep-requires : tie.Need-keep-requires
+keep-requires c κs =
+    let placed = c .before .before .before .before in
+    let x = placed .before .before .before .before in
+    let a = x .before .before .before .before .before .before .before .args in
+    let sizes = kept-sizes (a .subject .now) (a .list .now) (fits x) in
+    (omega arith, omega arith, omega arith, omega arith, omega arith, omega arith)
 
 returns-2 : tie.Need-returns-2
 returns-2 c =
-    let a = c .before .before .before .before .before .before .before .before .args in
-    many-unkept (a .cache) (lent (a .heads .now) (a .keys .now) (a .kept .now)) (a .subject .now) (a .list .now) (c .before .before .if1 .left) (c .before .if2 .taken) (c .walked2 .result) (c .walked2 .ensures)
-
-place-requires : tie.Need-place-requires
-place-requires c κs = search needs
-
-next-tick-requires : tie.Need-next-tick-requires
-next-tick-requires c κs = search needs
-
-keep-requires : tie.Need-keep-requires
-keep-requires c κs = search needs
-
-grown-requires : tie.Need-grown-requires
-grown-requires c κs = search needs
-
-same-length : tie.Need-same-length
-same-length c = search needs
-
-same-length-2 : tie.Need-same-length-2
-same-length-2 c = search needs
-
-same-length-3 : tie.Need-same-length-3
-same-length-3 c = search needs
-
-returns-3 : tie.Need-returns-3
-returns-3 c =
-    let a = c .before .before .before .before .before .before .before .before .before .before .before .before .before .before .before .before .before .before .before .before .before .before .before .args in
-    let k = c .before .before .before .before .before .before .before .keep in
-    let p = c .before .before .before .before .before .before .before .before .before .before .before .before .place in
-    let t = c .before .before .before .before .before .before .before .before .before .before .before .next-tick in
-    list-kept (a .cache) (lent (a .heads .now) (a .keys .now) (a .kept .now)) (a .subject .now) (a .list .now) (c .before .before .before .before .before .before .before .before .before .before .before .before .before .before .before .before .before .if1 .left) (c .before .before .before .before .before .before .before .before .before .before .before .before .before .before .before .before .if2 .left) (p .result) (p .ensures .0) (t .result) (t .ensures)
+    let kept = c .before .before .before .before .before .before .before in
+    let stamped = kept .before .before .before .before in
+    let placed = stamped .before in
+    let x = placed .before .before .before .before in
+    let a = x .before .before .before .before .before .before .before .args in
+    let p = placed .place in
+    let t = stamped .next-tick in
+    let k = kept .keep in
+    list-kept (a .cache) (lent (a .heads .now) (a .keys .now) (a .kept .now)) (a .subject .now) (a .list .now) (fits x)
+    (p .result) (p .ensures .0) (t .result) (t .ensures)
     (lent (k .last .0) (k .last .1 .0) (k .last .1 .1 .0)) (k .ensures) (c .grown .result) (c .grown .ensures)
 
 pub keep-list-spec : {M : Type 1} → statement M
 keep-list-spec =
     tie.close
     (tie.spec
-    walked-requires
+    (λ c κs. search needs)
+    (λ c κs. search needs)
     returns
-    walked-requires-2
-    returns-2
-    place-requires
-    next-tick-requires
+    (λ c κs. search needs)
+    (λ c κs. search needs)
     keep-requires
-    grown-requires
-    same-length
-    same-length-2
-    same-length-3
-    returns-3)
+    (λ c κs. search needs)
+    (λ c. search needs)
+    (λ c. search needs)
+    (λ c. search needs)
+    returns-2)

@@ -8,6 +8,8 @@ use lib.Seq.{paste}
 use borrow.Author.Needs.{needs}
 use borrow.Author.Tests.{lt-ltb, le-ltb, not-true, not-false}
 use Rattle.sublist_walk.specs.Matching.{countsFit}
+use Rattle.sublist_snapshot.specs.declared.Copied.the-variants.{Done}
+use Rattle.sublist_snapshot.specs.Copying.{leftCopied}
 use Rattle.sublist_snapshot.proofs.Pasting.{Fit, counts-fit, paste-two}
 use Rattle.sublist_snapshot.proofs.copy_table.Statement.{statement}
 use Rattle.sublist_snapshot.proofs.copy_table.Tie as tie
@@ -23,7 +25,7 @@ counts-fit-requires : tie.Need-counts-fit-requires
 counts-fit-requires c κs = search needs
 
 returns : tie.Need-returns
-returns c = (rw (sym (c .before .counts-fit .ensures) ∙ not-true (c .before .counts-fit .result) (c .if1 .taken)), refl)
+returns c = rw (sym (c .before .counts-fit .ensures) ∙ not-true (c .before .counts-fit .result) (c .if1 .taken))
 
 mul-front : tie.Need-mul-front
 mul-front c = let f = fits (c .before) in omega arith
@@ -35,7 +37,7 @@ returns-2 : tie.Need-returns-2
 returns-2 c =
     let k = c .before .before .before in
     let a = k .before .before .before .before .before .args in
-    (rw (counted k, lt-ltb (length (a .area .now)) (a .table .nodes * 16 + a .table .targets) (c .if2 .taken)), refl)
+    rw (counted k, lt-ltb (length (a .area .now)) (a .table .nodes * 16 + a .table .targets) (c .if2 .taken))
 
 copy-words-requires : tie.Need-copy-words-requires
 copy-words-requires c κs =
@@ -61,12 +63,13 @@ returns-3 c =
     let room = first .before .before in
     let k = room .before .before .before in
     let a = k .before .before .before .before .before .args in
-    let f = fits k in (
-      rw (counted k, le-ltb (length (a .area .now)) (a .table .nodes * 16 + a .table .targets) (room .if2 .left)),
-      second .copy-words2 .ensures
-          ∙ ap (λ l. paste l (a .table .nodes * 16) (a .target-words .now) (a .table .targets)) (first .copy-words .ensures)
-          ∙ paste-two (a .area .now) (a .node-words .now) (a .target-words .now) (a .table .nodes * 16) (a .table .targets) (f .nodes) (f .targets),
-    )
+    let f = fits k in
+    rw (counted k, le-ltb (length (a .area .now)) (a .table .nodes * 16 + a .table .targets) (room .if2 .left))
+    (ap (leftCopied Done) (
+    second .copy-words2 .ensures
+    ∙ ap (λ l. paste l (a .table .nodes * 16) (a .target-words .now) (a .table .targets)) (first .copy-words .ensures)
+    ∙ paste-two (a .area .now) (a .node-words .now) (a .target-words .now) (a .table .nodes * 16) (a .table .targets) (f .nodes) (f .targets)
+    ))
 
 pub copy-table-spec : {M : Type 1} → statement M
 copy-table-spec =

@@ -18,27 +18,6 @@ abbrev μ-loop : tie.MeasureT-loop
 loop-holds : tie.Need-loop-holds Inv-loop μ-loop
 loop-holds c = (omega arith, omega arith, omega arith, refl, paste-zero (c .args .to .now) (c .args .at) (c .args .from .now))
 
-mul-to : tie.Need-mul-to Inv-loop μ-loop
-mul-to c = search needs
-
-shared-slice-read-to : tie.Need-shared-slice-read-to Inv-loop μ-loop
-shared-slice-read-to c = search needs
-
-add-to : tie.Need-add-to Inv-loop μ-loop
-add-to c = search needs
-
-mul-to-2 : tie.Need-mul-to-2 Inv-loop μ-loop
-mul-to-2 c = search needs
-
-slice-write-to : tie.Need-slice-write-to Inv-loop μ-loop
-slice-write-to c = search needs
-
-add-i : tie.Need-add-i Inv-loop μ-loop
-add-i c = search needs
-
-loop-less : tie.Need-loop-less Inv-loop μ-loop
-loop-less c = search needs
-
 loop-again : tie.Need-loop-again Inv-loop μ-loop
 loop-again c =
     let a = c .before .before .before .args in
@@ -49,9 +28,6 @@ loop-again c =
       length-set (l .to) (a .at + l .i) (getD (a .from .now) (l .i) 0) ∙ l .inv .3,
       rw (l .inv .4, add-one (l .i)) (paste-suc (a .to .now) (a .at) (a .from .now) (l .i) 0 (omega arith) (omega arith)),
     )
-
-same-length : tie.Need-same-length Inv-loop μ-loop
-same-length c = search needs
 
 returns : tie.Need-returns Inv-loop μ-loop
 returns c =
@@ -65,13 +41,13 @@ copy-words-spec =
     Inv-loop
     μ-loop
     loop-holds
-    mul-to
-    shared-slice-read-to
-    add-to
-    mul-to-2
-    slice-write-to
-    add-i
-    loop-less
+    (λ c. search needs)
+    (λ c. search needs)
+    (λ c. search needs)
+    (λ c. search needs)
+    (λ c. search needs)
+    (λ c. search needs)
+    (λ c. search needs)
     loop-again
-    same-length
+    (λ c. search needs)
     returns)

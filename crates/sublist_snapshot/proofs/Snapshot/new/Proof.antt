@@ -4,7 +4,7 @@ use borrow.Author.Needs.{needs}
 use Rattle.sublist_snapshot.specs.declared.Copied.{Copied}
 use Rattle.sublist_snapshot.specs.declared.Copied.the-variants.{Done, Damaged, StoreFull}
 use Rattle.sublist_snapshot.specs.Snapshot.{Made, madeBy, make}
-use Rattle.sublist_snapshot.specs.Answers.{lent}
+use Rattle.sublist_snapshot.specs.Answers.{lentTable}
 use Rattle.sublist_snapshot.specs.Copying.{copyRefusal}
 use Rattle.sublist_snapshot.proofs.Pasting.{made-as}
 use Rattle.sublist_snapshot.proofs.Snapshot.new.Statement.{statement}
@@ -13,11 +13,11 @@ use Rattle.sublist_snapshot.proofs.Snapshot.new.Tie as tie
 told : (k : tie.After-copy-table) (m : Copied) → k .copy-table .result ≡ m
     → let a = k .before .before .before .before .before .args in
     _≡_ {A = Made}
-    (record { says = (madeBy (copyRefusal m) (lent (a .table) (a .node-words .now) (a .target-words .now)) (a .area .now)) .says; area = k .copy-table .last .1 .1 .1 .0 })
-    (make (lent (a .table) (a .node-words .now) (a .target-words .now)) (a .area .now))
+    (record { says = (madeBy (copyRefusal m) (lentTable (a .table) (a .node-words .now) (a .target-words .now)) (a .area .now)) .says; area = k .copy-table .last .1 .1 .1 .0 })
+    (make (lentTable (a .table) (a .node-words .now) (a .target-words .now)) (a .area .now))
 told k m q =
     let a = k .before .before .before .before .before .args in
-    made-as (lent (a .table) (a .node-words .now) (a .target-words .now)) (a .area .now) (k .copy-table .last .1 .1 .1 .0) (k .copy-table .result) m q (k .copy-table .ensures .0) (k .copy-table .ensures .1)
+    made-as (lentTable (a .table) (a .node-words .now) (a .target-words .now)) (a .area .now) (k .copy-table .last .1 .1 .1 .0) (k .copy-table .result) m q (k .copy-table .ensures)
 
 copy-table-requires : tie.Need-copy-table-requires
 copy-table-requires c κs = search needs
@@ -35,19 +35,22 @@ same-length : tie.Need-same-length
 same-length c = search needs
 
 returns : tie.Need-returns
-returns c = told (c .before .before .before .before) Damaged (c .enum-told .given .1)
+returns c = let k = c .before .before .before .before in told k Damaged (c .enum-told .given .1)
 
 same-length-2 : tie.Need-same-length-2
 same-length-2 c = search needs
 
 returns-2 : tie.Need-returns-2
-returns-2 c = told (c .before .before .before .before) StoreFull (c .enum-told2 .given .1)
+returns-2 c = let k = c .before .before .before .before in told k StoreFull (c .enum-told2 .given .1)
 
 same-length-3 : tie.Need-same-length-3
 same-length-3 c = search needs
 
 returns-3 : tie.Need-returns-3
-returns-3 c = told (c .before .before .before .before .before) Done (c .before .enum-told3 .given .1)
+returns-3 c =
+    let done = c .before in
+    let k = done .before .before .before .before in
+    told k Done (done .enum-told3 .given .1)
 
 pub new-spec : {M : Type 1} → statement M
 new-spec =

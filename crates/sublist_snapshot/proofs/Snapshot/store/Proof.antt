@@ -4,7 +4,7 @@ use borrow.Author.Needs.{needs}
 use Rattle.sublist_snapshot.specs.declared.Copied.{Copied}
 use Rattle.sublist_snapshot.specs.declared.Copied.the-variants.{Done, Damaged, StoreFull}
 use Rattle.sublist_snapshot.specs.Snapshot.{Stored, storedBy, storeIn}
-use Rattle.sublist_snapshot.specs.Answers.{lent}
+use Rattle.sublist_snapshot.specs.Answers.{lentTable}
 use Rattle.sublist_snapshot.specs.Copying.{copyRefusal}
 use Rattle.sublist_snapshot.proofs.Pasting.{stored-as}
 use Rattle.sublist_snapshot.proofs.Snapshot.store.Statement.{statement}
@@ -12,12 +12,12 @@ use Rattle.sublist_snapshot.proofs.Snapshot.store.Tie as tie
 
 told : (k : tie.After-copy-table) (m : Copied) → k .copy-table .result ≡ m
     → let a = k .before .before .before .before .before .args in
-    let x = storedBy (copyRefusal m) (a .self) (a .area .now) (lent (a .table) (a .node-words .now) (a .target-words .now)) in
+    let x = storedBy (copyRefusal m) (a .self) (a .area .now) (lentTable (a .table) (a .node-words .now) (a .target-words .now)) in
     _≡_ {A = Stored} (record { says = x .says; snapshot = x .snapshot; area = k .copy-table .last .1 .1 .1 .0 })
-    (storeIn (a .self) (a .area .now) (lent (a .table) (a .node-words .now) (a .target-words .now)))
+    (storeIn (a .self) (a .area .now) (lentTable (a .table) (a .node-words .now) (a .target-words .now)))
 told k m q =
     let a = k .before .before .before .before .before .args in
-    stored-as (lent (a .table) (a .node-words .now) (a .target-words .now)) (a .area .now) (k .copy-table .last .1 .1 .1 .0) (k .copy-table .result) m q (k .copy-table .ensures .0) (k .copy-table .ensures .1) (a .self)
+    stored-as (lentTable (a .table) (a .node-words .now) (a .target-words .now)) (a .area .now) (k .copy-table .last .1 .1 .1 .0) (k .copy-table .result) m q (k .copy-table .ensures) (a .self)
 
 copy-table-requires : tie.Need-copy-table-requires
 copy-table-requires c κs = search needs
@@ -38,19 +38,22 @@ same-length : tie.Need-same-length
 same-length c = search needs
 
 returns : tie.Need-returns
-returns c = told (c .before .before .before .before) Damaged (c .enum-told .given .1)
+returns c = let k = c .before .before .before .before in told k Damaged (c .enum-told .given .1)
 
 same-length-2 : tie.Need-same-length-2
 same-length-2 c = search needs
 
 returns-2 : tie.Need-returns-2
-returns-2 c = told (c .before .before .before .before) StoreFull (c .enum-told2 .given .1)
+returns-2 c = let k = c .before .before .before .before in told k StoreFull (c .enum-told2 .given .1)
 
 same-length-3 : tie.Need-same-length-3
 same-length-3 c = search needs
 
 returns-3 : tie.Need-returns-3
-returns-3 c = rw (c .wrapping-add-u64 .ensures) (told (c .before .before .before .before .before .before) Done (c .before .before .enum-told3 .given .1))
+returns-3 c =
+    let done = c .before .before in
+    let k = done .before .before .before .before in
+    rw (c .wrapping-add-u64 .ensures) (told k Done (done .enum-told3 .given .1))
 
 pub store-spec : {M : Type 1} → statement M
 store-spec =
