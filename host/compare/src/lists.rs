@@ -94,6 +94,13 @@ pub fn example_part(count: usize) -> Vec<Line> {
         .collect()
 }
 
+/// The run of ten tokens whose stars are the bits of a number.
+pub fn run_of_ten(number: usize) -> Vec<u8> {
+    let token = |place: usize| if number >> place & 1 == 1 { "*" } else { "a" };
+    let tokens: Vec<&str> = (0..10).map(token).collect();
+    tokens.join(".").into_bytes()
+}
+
 /// A subject that a pattern matches: `*` is a number, `>` one token or two.
 pub fn subject_of(pattern: &[u8], random: &mut Random) -> Vec<u8> {
     let tokens = pattern

@@ -1,8 +1,7 @@
 //! Lists and areas at their limits: inserts, refused builds, and the scope document's row of 1,024 runs.
-use crate::kinds::run_of_ten;
 use crate::tables::{self, answer, fresh_words, packed, untouched};
 use crate::tally::{Family, Tally};
-use compare::lists::{self, Line};
+use compare::lists::{self, run_of_ten, Line};
 use compare::model::Tree;
 use compare::original;
 use compare::random::Random;
