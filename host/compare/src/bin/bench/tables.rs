@@ -1,6 +1,6 @@
 //! The rows on lists: inserting all their lines, building the table, matching a subject in it.
 use crate::row::{self, row};
-use compare::lists::{run_of_ten, Line};
+use compare::lists::{runs_of_ten, Line};
 use compare::original;
 use compare::table::{List, Table};
 use oracle::sublist::{Sublist, SublistBuilder};
@@ -78,26 +78,14 @@ pub fn rows(rounds: usize, lines: &[Line], subjects: &[Vec<u8>]) {
     matches(&format!("match on {count}"), rounds, lines, subjects);
 }
 
-/// A line for each run of ten tokens out of `a` and `*`, with an end behind it.
-fn dense(end: &str) -> Vec<Line> {
-    (0..1024)
-        .map(|number| {
-            (
-                [&run_of_ten(number), end.as_bytes()].concat(),
-                number as u32,
-            )
-        })
-        .collect()
-}
-
 /// Matches at which the walk stands at 1,024 nodes for each of the last 22 tokens, and the list has all lines.
 pub fn dense_rows(rounds: usize) {
     let subject = ["a"; 32].join(".").into_bytes();
     let subjects = [subject];
-    let long = dense(&".a".repeat(22));
+    let long = runs_of_ten(&".a".repeat(22));
     let name = "match on 1,024 runs of a and *, 22 tokens behind";
     matches(name, rounds, &long, &subjects);
-    let tails = [long, dense(".>")].concat();
+    let tails = [long, runs_of_ten(".>")].concat();
     let name = "the same with a > line behind each run";
     matches(name, rounds, &tails, &subjects);
 }

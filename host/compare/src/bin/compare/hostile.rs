@@ -3,7 +3,7 @@
 use crate::tables::{self, answer, bytes_of, fresh_words, match_lent, untouched, MOST_BYTES};
 use crate::tally::{Family, Tally};
 use compare::area::Lent;
-use compare::lists::{self, run_of_ten, Line};
+use compare::lists::{self, runs_of_ten};
 use compare::original;
 use compare::random::Random;
 use compare::table::NODE_WORDS;
@@ -162,9 +162,7 @@ pub fn drawn(random: &mut Random) -> Lent {
 
 /// The 1,024 runs of ten tokens, whose ends get children among all nodes: frontiers around 1,024 and beyond.
 fn wide(tally: &mut Tally, random: &mut Random) {
-    let lines: Vec<Line> = (0..1024)
-        .map(|number| (run_of_ten(number), number as u32))
-        .collect();
+    let lines = runs_of_ten("");
     let Some(sides) = tables::build(tally, random, &lines) else {
         panic!("the 1,024 runs are refused");
     };
