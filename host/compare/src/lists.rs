@@ -94,6 +94,20 @@ pub fn example_part(count: usize) -> Vec<Line> {
         .collect()
 }
 
+/// The run of ten tokens whose stars are the bits of a number.
+pub fn run_of_ten(number: usize) -> Vec<u8> {
+    let token = |place: usize| if number >> place & 1 == 1 { "*" } else { "a" };
+    let tokens: Vec<&str> = (0..10).map(token).collect();
+    tokens.join(".").into_bytes()
+}
+
+/// All 1,024 runs of ten tokens out of `a` and `*`, each with an end behind it.
+pub fn runs_of_ten(end: &str) -> Vec<Line> {
+    let pattern = |number| [&run_of_ten(number), end.as_bytes()].concat();
+    let lines = (0..1024).map(|number| (pattern(number), number as u32));
+    lines.collect()
+}
+
 /// A subject that a pattern matches: `*` is a number, `>` one token or two.
 pub fn subject_of(pattern: &[u8], random: &mut Random) -> Vec<u8> {
     let tokens = pattern

@@ -2,7 +2,7 @@
 use crate::answers::{accepted, front, size, snapshot_state, values};
 use crate::limits::{list_numbers, ENTRY_NUMBERS};
 use crate::raw::{self, SnapshotState};
-use crate::Refusal;
+use crate::{depth, Refusal};
 
 /// A list of patterns with their targets, in the order of insertion: the original's `SublistBuilder` over lent areas.
 #[derive(Debug)]
@@ -68,8 +68,8 @@ impl<'a> List<'a> {
 
     /// No table of this list has more nodes: the root, and one for each token.
     pub fn most_nodes(&self) -> usize {
-        let dots = self.texts().iter().filter(|&&byte| byte == b'.').count();
-        1 + self.entries + dots
+        // The tokens of an entry are its dots and one; the depth of all texts, end to end, is all dots and one.
+        self.entries + depth(self.texts())
     }
 
     /// The table of the list in lent areas, or why there is none: 12 to 16. [`List::most_nodes`] and [`List::len`] say how much is enough.

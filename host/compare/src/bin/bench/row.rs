@@ -1,38 +1,113 @@
 //! Times of calls that take turns.
 use std::hint::black_box;
-use std::time::Instant;
+use std::time::{Duration, Instant};
+
+/// About how long one timing takes, unless a single call takes longer: so short that other programs seldom come between.
+const ROUND: Duration = Duration::from_millis(1);
+
+/// The passes that each call makes before the first round.
+const FIRST_PASSES: usize = 3;
+
+/// The widths of the columns.
+const NAME: usize = 48;
+const TIME: usize = 10;
 
 /// A call on an input, timed. What it gives is only there to be computed.
 pub type Call<'a, T> = &'a dyn Fn(&T) -> u64;
 
-/// Nanoseconds for a call, over all inputs.
-fn time<T>(calls: usize, inputs: &[T], call: Call<T>) -> f64 {
+/// How long so many passes over all inputs take.
+fn time<T>(passes: usize, inputs: &[T], call: Call<T>) -> Duration {
     let began = Instant::now();
-    for _ in 0..calls {
+    for _ in 0..passes {
         for input in inputs {
             black_box(call(black_box(input)));
         }
     }
-    began.elapsed().as_nanos() as f64 / (calls * inputs.len()) as f64
+    began.elapsed()
 }
 
-/// One line: the time of the first call, ours, and of each other with its ratio. The calls take turns, and each counts by its fastest round.
-pub fn row<T>(name: &str, rounds: usize, each: usize, inputs: &[T], calls: &[Call<T>]) {
-    let mut times = vec![f64::INFINITY; calls.len()];
-    for _ in 0..rounds {
-        for (fastest, call) in times.iter_mut().zip(calls) {
-            *fastest = fastest.min(time(each, inputs, call));
+/// How the inputs of a row are timed: in parts of so many, so many passes over each part in a round.
+struct Plan {
+    part: usize,
+    passes: usize,
+}
+
+impl Plan {
+    /// A plan by the call whose pass over all inputs takes longest. Each call makes some passes to find out.
+    fn new<T>(inputs: &[T], calls: &[Call<T>]) -> Plan {
+        let pass = |call| (0..FIRST_PASSES).map(|_| time(1, inputs, call)).min();
+        let slowest = calls.iter().filter_map(|&call| pass(call)).max();
+        let slowest = slowest.map_or(1, |pass| pass.as_nanos().max(1));
+        let passes = ROUND.as_nanos() / slowest;
+        let part = inputs.len() as u128 * ROUND.as_nanos() / slowest;
+        Plan {
+            part: (part as usize).clamp(1, inputs.len()),
+            passes: (passes as usize).max(1),
         }
     }
-    print(name, &times);
+}
+
+/// One line: the time of the first call, ours, and of each other with its ratio. The calls take turns, and each counts by its fastest rounds: where a pass
+/// over the inputs takes long, by the fastest for each part of them. How many passes each call has made in all.
+pub fn row<T>(name: &str, rounds: usize, inputs: &[T], calls: &[Call<T>]) -> usize {
+    let Plan { part, passes } = Plan::new(inputs, calls);
+    let parts: Vec<&[T]> = inputs.chunks(part).collect();
+    let mut fastest = vec![vec![Duration::MAX; parts.len()]; calls.len()];
+    for _ in 0..rounds {
+        for (fastest, call) in fastest.iter_mut().zip(calls) {
+            for (fastest, inputs) in fastest.iter_mut().zip(&parts) {
+                *fastest = time(passes, inputs, call).min(*fastest);
+            }
+        }
+    }
+    let sum = |parts: &Vec<Duration>| parts.iter().sum();
+    let times = fastest
+        .iter()
+        .map(|parts| nanoseconds(sum(parts), passes * inputs.len()));
+    print(name, &times.collect::<Vec<f64>>());
+    FIRST_PASSES + rounds * passes
+}
+
+/// The nanoseconds of one of so many calls.
+pub fn nanoseconds(round: Duration, calls: usize) -> f64 {
+    round.as_nanos() as f64 / calls as f64
+}
+
+/// So many lines, as people write it.
+pub fn lines(count: usize) -> String {
+    match (count / 1000, count % 1000) {
+        (0, count) => format!("{count} lines"),
+        (thousands, rest) => format!("{thousands},{rest:03} lines"),
+    }
+}
+
+/// A time as people write it.
+fn shown(nanoseconds: f64) -> String {
+    if nanoseconds < 9_999.5 {
+        format!("{nanoseconds:.0} ns")
+    } else {
+        format!("{:.1} us", nanoseconds / 1e3)
+    }
+}
+
+/// What stands in the columns, as the head of a Markdown table.
+pub fn heading() {
+    println!(
+        "| {:NAME$} | {:>TIME$} | {:>TIME$} | ratio | {:>TIME$} | ratio |",
+        "call", "router", "original", "known text"
+    );
+    println!("|---|---|---|---|---|---|");
 }
 
 /// The line of these times, ours first.
 pub fn print(name: &str, times: &[f64]) {
     let ours = times[0];
-    print!("{name:22} {ours:9.1} ns");
-    for theirs in &times[1..] {
-        print!(" {theirs:9.1} ns {:6.2}", theirs / ours);
+    print!("| {name:NAME$} | {:>TIME$} |", shown(ours));
+    for &theirs in &times[1..] {
+        print!(" {:>TIME$} | {:5.2} |", shown(theirs), theirs / ours);
+    }
+    if times.len() == 2 {
+        print!(" {:TIME$} |       |", "");
     }
     println!();
 }

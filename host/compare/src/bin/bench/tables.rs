@@ -1,71 +1,91 @@
-//! The rows on a yard's list: inserting all its lines, building the table, matching a subject in it.
-use crate::row::row;
-use compare::lists::Line;
+//! The rows on lists: inserting all their lines, building the table, matching a subject in it.
+use crate::row::{self, row};
+use compare::lists::{runs_of_ten, Line};
 use compare::original;
 use compare::table::{List, Table};
-use oracle::sublist::SublistBuilder;
+use oracle::sublist::{Sublist, SublistBuilder};
 use std::cell::RefCell;
 use std::hint::black_box;
 
-/// In a round: matches of each subject, and builds.
-const MATCHES: usize = 20;
-const BUILDS: usize = 2;
-
-fn inserted(lines: &[Line]) -> List {
+/// A list of the router.
+pub fn inserted(lines: &[Line]) -> List {
     let bytes = lines.iter().map(|(pattern, _)| pattern.len()).sum();
     let mut list = List::with_room(lines.len(), bytes);
     let answers = lines
         .iter()
         .map(|(pattern, target)| list.insert(pattern, *target).number);
-    assert_eq!(answers.sum::<u64>(), 0);
+    assert_eq!(answers.sum::<u64>(), 0, "the patterns are accepted");
     list
 }
 
-fn their_list(lines: &[Line]) -> SublistBuilder<u32> {
+/// The same list of the original.
+pub fn their_list(lines: &[Line]) -> SublistBuilder<u32> {
     let mut builder = SublistBuilder::new();
     for (pattern, target) in lines {
-        let text = std::str::from_utf8(pattern).expect("a yard's pattern is UTF-8");
+        let text = std::str::from_utf8(pattern).expect("a pattern is UTF-8");
         builder
             .insert(text, *target)
-            .expect("a yard's pattern is accepted");
+            .expect("a pattern is accepted");
     }
     builder
 }
 
+pub fn built(list: &List) -> Table {
+    Table::build(list, 0).expect("the list is accepted")
+}
+
+pub fn their_table(list: &SublistBuilder<u32>) -> Sublist<u32> {
+    list.build(0).expect("the list is accepted")
+}
+
+fn matches(name: &str, rounds: usize, lines: &[Line], subjects: &[Vec<u8>]) {
+    let (table, theirs) = (built(&inserted(lines)), their_table(&their_list(lines)));
+    let out = RefCell::new((vec![0; lines.len()], Vec::with_capacity(lines.len())));
+    let ours = |subject: &Vec<u8>| table.match_subject(subject, &mut out.borrow_mut().0).first;
+    let theirs = |subject: &Vec<u8>| {
+        original::match_subject(&theirs, subject, &mut out.borrow_mut().1).first
+    };
+    for subject in subjects {
+        assert_eq!(
+            ours(subject),
+            theirs(subject),
+            "{name}: the lengths of the lists"
+        );
+    }
+    row(name, rounds, subjects, &[&ours, &theirs]);
+}
+
 pub fn rows(rounds: usize, lines: &[Line], subjects: &[Vec<u8>]) {
-    let count = lines.len();
+    let count = row::lines(lines.len());
     row(
-        &format!("insert {count}"),
+        &format!("insert of {count}"),
         rounds,
-        BUILDS,
         &[lines],
         &[&|lines| inserted(lines).entries() as u64, &|lines| {
             black_box(their_list(lines));
             0
         }],
     );
-    let (list, their_list) = (inserted(lines), their_list(lines));
-    let build = || Table::build(&list, 0).expect("a yard's list is accepted");
-    let build_theirs = || their_list.build(0).expect("a yard's list is accepted");
+    let (list, theirs) = (inserted(lines), their_list(lines));
     row(
-        &format!("build {count}"),
+        &format!("build of {count}"),
         rounds,
-        BUILDS,
         &[()],
-        &[&|_| build().nodes as u64, &|_| {
-            build_theirs().node_count() as u64
+        &[&|_| built(&list).nodes as u64, &|_| {
+            their_table(&theirs).node_count() as u64
         }],
     );
-    let (table, theirs) = (build(), build_theirs());
-    let out = RefCell::new((vec![0; count], Vec::with_capacity(count)));
-    row(
-        &format!("match {count}"),
-        rounds,
-        MATCHES,
-        subjects,
-        &[
-            &|subject| table.match_subject(subject, &mut out.borrow_mut().0).first,
-            &|subject| original::match_subject(&theirs, subject, &mut out.borrow_mut().1).first,
-        ],
-    );
+    matches(&format!("match on {count}"), rounds, lines, subjects);
+}
+
+/// Matches at which the walk stands at 1,024 nodes for each of the last 22 tokens, and the list has all lines.
+pub fn dense_rows(rounds: usize) {
+    let subject = ["a"; 32].join(".").into_bytes();
+    let subjects = [subject];
+    let long = runs_of_ten(&".a".repeat(22));
+    let name = "match on 1,024 runs of a and *, 22 tokens behind";
+    matches(name, rounds, &long, &subjects);
+    let tails = [long, runs_of_ten(".>")].concat();
+    let name = "the same with a > line behind each run";
+    matches(name, rounds, &tails, &subjects);
 }

@@ -1,10 +1,9 @@
 //! Tables that no build made: counts beyond the areas, words that point anywhere. A match ends in what a walk over the words as docs/LAYOUT.md
 //! describes them gives, and writes the list alone, or nothing.
-use crate::kinds::run_of_ten;
-use crate::tables::{self, answer, bytes_of, fresh_words, untouched, MOST_BYTES};
+use crate::tables::{self, answer, bytes_of, fresh_words, match_lent, untouched, MOST_BYTES};
 use crate::tally::{Family, Tally};
 use compare::area::Lent;
-use compare::lists::{self, Line};
+use compare::lists::{self, runs_of_ten};
 use compare::original;
 use compare::random::Random;
 use compare::table::NODE_WORDS;
@@ -38,14 +37,7 @@ fn match_says(table: &Lent, subject: &[u8], places: usize) -> (Answer, Vec<u32>)
 fn compare_words(tally: &mut Tally, table: &Lent, subject: &[u8], places: usize) {
     let (due, list) = match_says(table, subject, places);
     let mut out = fresh_words(places);
-    let ours = raw::match_table(
-        table.nodes,
-        table.targets,
-        &table.node_words,
-        &table.target_words,
-        subject,
-        &mut out,
-    );
+    let ours = match_lent(table, subject, &mut out);
     let inputs = || format!("  {table:?}\n  {}\n", subject.escape_ascii());
     tally.compare_on("match on a hostile table", inputs, ours, due);
     tally.compare_on("its list", inputs, &out[..list.len()], &list);
@@ -170,9 +162,7 @@ pub fn drawn(random: &mut Random) -> Lent {
 
 /// The 1,024 runs of ten tokens, whose ends get children among all nodes: frontiers around 1,024 and beyond.
 fn wide(tally: &mut Tally, random: &mut Random) {
-    let lines: Vec<Line> = (0..1024)
-        .map(|number| (run_of_ten(number), number as u32))
-        .collect();
+    let lines = runs_of_ten("");
     let Some(sides) = tables::build(tally, random, &lines) else {
         panic!("the 1,024 runs are refused");
     };

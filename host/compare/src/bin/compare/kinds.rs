@@ -1,7 +1,7 @@
 //! Random lists of several kinds, and subjects for them.
 use crate::tables;
 use crate::tally::Tally;
-use compare::lists::{self, Line, CLASH};
+use compare::lists::{self, run_of_ten, Line, CLASH};
 use compare::random::Random;
 use compare::table::MAX_ENTRIES;
 
@@ -137,13 +137,6 @@ fn near_limit(tally: &mut Tally, random: &mut Random) {
     run(tally, random, &lines, &["a", "a", "a", "b"], 8, |random| {
         text(&vec!["a"; 1 + random.below(12)])
     });
-}
-
-/// The run of ten tokens whose stars are the bits of a number.
-pub fn run_of_ten(number: usize) -> Vec<u8> {
-    let token = |place: usize| if number >> place & 1 == 1 { "*" } else { "a" };
-    let tokens: Vec<&str> = (0..10).map(token).collect();
-    text(&tokens)
 }
 
 /// Short patterns with many wildcards, up to as many as a list may have.

@@ -1,8 +1,7 @@
 //! Lists and areas at their limits: inserts, refused builds, and the scope document's row of 1,024 runs.
-use crate::kinds::run_of_ten;
 use crate::tables::{self, answer, fresh_words, packed, untouched};
 use crate::tally::{Family, Tally};
-use compare::lists::{self, Line};
+use compare::lists::{self, run_of_ten, runs_of_ten, Line};
 use compare::model::Tree;
 use compare::original;
 use compare::random::Random;
@@ -193,9 +192,7 @@ pub fn builds(tally: &mut Tally, random: &mut Random) {
 
 /// All runs of ten tokens out of `a` and `*`: 1,024, accepted. With the all-star run followed by `.a` and by `.*`: 1,025, refused.
 pub fn runs(tally: &mut Tally, random: &mut Random) {
-    let mut lines: Vec<Line> = (0..1024)
-        .map(|number| (run_of_ten(number), number as u32))
-        .collect();
+    let mut lines = runs_of_ten("");
     let Some(sides) = tables::build(tally, random, &lines) else {
         panic!("the 1,024 runs are refused");
     };

@@ -183,6 +183,18 @@ fn list_in_bytes(list: &[u32], out: &[u8]) -> Vec<u8> {
     bytes
 }
 
+/// The router's match on a table as it is lent.
+pub fn match_lent(table: &Lent, subject: &[u8], out: &mut [u32]) -> Answer {
+    raw::match_table(
+        table.nodes,
+        table.targets,
+        &table.node_words,
+        &table.target_words,
+        subject,
+        out,
+    )
+}
+
 impl Sides<'_> {
     pub fn table(&self) -> &Lent {
         &self.table
@@ -197,16 +209,8 @@ impl Sides<'_> {
         due: Answer,
         list: &[u32],
     ) {
-        let table = &self.table;
         let mut out = fresh_words(length);
-        let ours = raw::match_table(
-            table.nodes,
-            table.targets,
-            &table.node_words,
-            &table.target_words,
-            subject,
-            &mut out,
-        );
+        let ours = match_lent(&self.table, subject, &mut out);
         tally.compare_list("match", self.lines, subject, ours, due);
         let written = if due.accepted() { list } else { &[] };
         let kept = untouched(&out, written.len());

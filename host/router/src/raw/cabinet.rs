@@ -1,0 +1,41 @@
+//! The calls on a cache and on verdicts.
+use super::calls::calls;
+use super::{Answer, CacheState, MadeCache, Resolved, SnapshotState, Verdict};
+
+calls! {
+    /// A fresh cache of so many slots, 0 counting as 1, over areas of 3 numbers, 256 bytes and 16 targets a slot. Or 17.
+    pub fn cache_new(
+        capacity: usize, heads: &[u64], keys: &[u8], kept: &[u32],
+    ) -> MadeCache = router_cache_new;
+
+    /// The cache emptied, its tick 0; generation and walks remain.
+    pub fn cache_clear(cache: CacheState) -> CacheState = router_cache_clear;
+
+    /// The targets of a subject through a cache: where the list lies (0 in `kept`, 1 in `out`), its first place and its length.
+    /// Or 1 to 9, 17 to 19, 21.
+    pub fn resolve(
+        cache: CacheState, heads: &mut [u64], keys: &mut [u8], kept: &mut [u32],
+        snapshot: SnapshotState, area: &[u32], subject: &[u8], out: &mut [u32],
+    ) -> Resolved = router_resolve;
+
+    /// The same on areas of bytes, lowest byte of a number first: 8 bytes a number of `heads`, 4 a word of the others; places and length count words.
+    /// 99 if `heads`, `kept`, `area` and `out` are together more than 65,536 bytes.
+    pub fn resolve_bytes(
+        cache: CacheState, heads: &mut [u8], keys: &mut [u8], kept: &mut [u8],
+        snapshot: SnapshotState, area: &[u8], subject: &[u8], out: &mut [u8],
+    ) -> Resolved = router_resolve_bytes;
+
+    /// The verdict on a list of targets: 0, its kind and its value, as [`Verdict`] has them.
+    pub fn single_home(list: &[u32]) -> Answer = router_single_home;
+
+    /// The verdict on a subject by the standing table. The list is written to `out` as by a match. Or 1 to 9, 19, 21.
+    pub fn resolve_single_home(
+        snapshot: SnapshotState, area: &[u32], subject: &[u8], out: &mut [u32],
+    ) -> Verdict = router_resolve_single_home;
+
+    /// The verdict on a subject through a cache: kind, value and 0. Or the refusals of [`resolve`].
+    pub fn resolve_single_home_cached(
+        cache: CacheState, heads: &mut [u64], keys: &mut [u8], kept: &mut [u32],
+        snapshot: SnapshotState, area: &[u32], subject: &[u8], out: &mut [u32],
+    ) -> Resolved = router_resolve_single_home_cached;
+}
