@@ -51,16 +51,16 @@ module _ (text : List ℕ) (at : ℕ) (h : length text < at) where
   unfolding past
   past-none = rw token-none
 
--- what is known where a token is met at position `at`: it lies in the text, and those that are left are it and those from `next` on
-pub record Met (text : List ℕ) (at start end next : ℕ) : Type 0 where
+-- what is known where a token is found at position `at`: it lies in the text, and those that are left are it and those from `next` on
+pub record Found (text : List ℕ) (at start end next : ℕ) : Type 0 where
   pub within : (start ≤ end) × (end ≤ length text)
   pub moves : (at < next) × (next ≤ length text + 1)
   pub left : tokensFrom text at ≡ take (end - start) (drop start text) ∷ tokensFrom text next
 
-pub part-met : (text : List ℕ) (at start end next : ℕ) (k : Token) → k ≡ tokenAt text at → k ≡ Part start end next → Met text at start end next
-part-met text at start end next k e f = go (leb at (length text)) refl
+pub part-found : (text : List ℕ) (at start end next : ℕ) (k : Token) → k ≡ tokenAt text at → k ≡ Part start end next → Found text at start end next
+part-found text at start end next k e f = go (leb at (length text)) refl
   where
-    go : (b : Bool) → leb at (length text) ≡ b → Met text at start end next
+    go : (b : Bool) → leb at (length text) ≡ b → Found text at start end next
     go true g =
         let h = leb-true at (length text) g in
         let t = token-here text at h in
@@ -74,9 +74,9 @@ part-met text at start end next k e f = go (leb at (length text)) refl
         let t = token-none text at (leb-false at (length text) g) in
         let z : _≡_ {A = ℕ} 0 1 = cc in absurd (omega arith)
 
--- where none is met, the text has ended
-pub end-met : (text : List ℕ) (at : ℕ) (k : Token) → k ≡ tokenAt text at → k ≡ End → length text < at
-end-met text at k e f = go (leb at (length text)) refl
+-- where none is found, the text has ended
+pub end-found : (text : List ℕ) (at : ℕ) (k : Token) → k ≡ tokenAt text at → k ≡ End → length text < at
+end-found text at k e f = go (leb at (length text)) refl
   where
     go : (b : Bool) → leb at (length text) ≡ b → length text < at
     go true g =
