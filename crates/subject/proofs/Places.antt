@@ -119,22 +119,35 @@ place-past (t ∷ ts) at (suc n) h = place-past ts (at + length t + 1) n (omega 
 pub nth-past : (text : List ℕ) (n : ℕ) → length (tokens text) ≤ n → placeIn 0 (tokens text) n ≡ End
 nth-past text n h = place-past (tokens text) 0 n h
 
--- token n of those from position `at` on has a place, where the text has its bytes
+-- token n of those from position `at` on has a place within the text, where the text has its bytes
 pub record Placed (text : List ℕ) (at : ℕ) (ts : List (List ℕ)) (n : ℕ) : Type 0 where
   pub start : ℕ
   pub end : ℕ
   pub place : placeIn at ts n ≡ Part start end (end + 1)
+  pub within : (start ≤ end) × (end ≤ length text)
   pub bytes : take (end - start) (drop start text) ≡ getD ts n []
 
 -- the first token that is left, and one behind it
 placed-first : (text : List ℕ) (at : ℕ) → at ≤ length text → Placed text at (tokensFrom text at) 0
 placed-first text at h =
-    record { start = at; end = dotFrom text at; place = rw (tokens-next text at h, first-ends text at h); bytes = rw (tokens-next text at h) }
+    record {
+      start = at;
+      end = dotFrom text at;
+      place = rw (tokens-next text at h, first-ends text at h);
+      within = (dot-from text at, dot-within text at h);
+      bytes = rw (tokens-next text at h);
+    }
 
 placed-next : (text : List ℕ) (at n : ℕ) → at ≤ length text → Placed text (dotFrom text at + 1) (tokensFrom text (dotFrom text at + 1)) n
     → Placed text at (tokensFrom text at) (suc n)
 placed-next text at n h p =
-    record { start = p .start; end = p .end; place = place-next text at h n ∙ p .place; bytes = rw (tokens-next text at h) (p .bytes) }
+    record {
+      start = p .start;
+      end = p .end;
+      place = place-next text at h n ∙ p .place;
+      within = p .within;
+      bytes = rw (tokens-next text at h) (p .bytes);
+    }
 
 -- where a token is left, the text has not ended
 not-ended : (text : List ℕ) (at n : ℕ) → n < length (tokensFrom text at) → at ≤ length text
@@ -150,7 +163,7 @@ placed-from text (suc n) at h =
     let k = not-ended text at (suc n) h in
     placed-next text at n k (placed-from text n (dotFrom text at + 1) (omega (arith, ap length (tokens-next text at k))))
 
--- token n of a text has a place, where the text has its bytes
+-- token n of a text has a place within it, where the text has its bytes
 pub nth-placed : (text : List ℕ) (n : ℕ) → n < length (tokens text) → Placed text 0 (tokens text) n
 nth-placed text n h = rw (tokens-start text) at (placed-from text n 0 (rw (tokens-start text) h))
 
