@@ -51,16 +51,16 @@ module _ (text : List ℕ) (at : ℕ) (h : length text < at) where
   unfolding past
   past-none = rw token-none
 
--- what is known where a token is met at position `at`: it lies in the text, and those that are left are it and those from `next` on
-pub record Met (text : List ℕ) (at start end next : ℕ) : Type 0 where
+-- what is known where a token is found at position `at`: it lies in the text, and those that are left are it and those from `next` on
+pub record Found (text : List ℕ) (at start end next : ℕ) : Type 0 where
   pub within : (start ≤ end) × (end ≤ length text)
   pub moves : (at < next) × (next ≤ length text + 1)
   pub left : tokensFrom text at ≡ take (end - start) (drop start text) ∷ tokensFrom text next
 
-pub part-met : (text : List ℕ) (at start end next : ℕ) (k : Token) → k ≡ tokenAt text at → k ≡ Part start end next → Met text at start end next
-part-met text at start end next k e f = go (leb at (length text)) refl
+pub part-found : (text : List ℕ) (at start end next : ℕ) (k : Token) → k ≡ tokenAt text at → k ≡ Part start end next → Found text at start end next
+part-found text at start end next k e f = go (leb at (length text)) refl
   where
-    go : (b : Bool) → leb at (length text) ≡ b → Met text at start end next
+    go : (b : Bool) → leb at (length text) ≡ b → Found text at start end next
     go true g =
         let h = leb-true at (length text) g in
         let t = token-here text at h in
@@ -74,9 +74,9 @@ part-met text at start end next k e f = go (leb at (length text)) refl
         let t = token-none text at (leb-false at (length text) g) in
         let z : _≡_ {A = ℕ} 0 1 = cc in absurd (omega arith)
 
--- where none is met, the text has ended
-pub end-met : (text : List ℕ) (at : ℕ) (k : Token) → k ≡ tokenAt text at → k ≡ End → length text < at
-end-met text at k e f = go (leb at (length text)) refl
+-- where none is found, the text has ended
+pub end-found : (text : List ℕ) (at : ℕ) (k : Token) → k ≡ tokenAt text at → k ≡ End → length text < at
+end-found text at k e f = go (leb at (length text)) refl
   where
     go : (b : Bool) → leb at (length text) ≡ b → length text < at
     go true g =
@@ -119,22 +119,35 @@ place-past (t ∷ ts) at (suc n) h = place-past ts (at + length t + 1) n (omega 
 pub nth-past : (text : List ℕ) (n : ℕ) → length (tokens text) ≤ n → placeIn 0 (tokens text) n ≡ End
 nth-past text n h = place-past (tokens text) 0 n h
 
--- token n of those from position `at` on has a place, where the text has its bytes
+-- token n of those from position `at` on has a place within the text, where the text has its bytes
 pub record Placed (text : List ℕ) (at : ℕ) (ts : List (List ℕ)) (n : ℕ) : Type 0 where
   pub start : ℕ
   pub end : ℕ
   pub place : placeIn at ts n ≡ Part start end (end + 1)
+  pub within : (start ≤ end) × (end ≤ length text)
   pub bytes : take (end - start) (drop start text) ≡ getD ts n []
 
 -- the first token that is left, and one behind it
 placed-first : (text : List ℕ) (at : ℕ) → at ≤ length text → Placed text at (tokensFrom text at) 0
 placed-first text at h =
-    record { start = at; end = dotFrom text at; place = rw (tokens-next text at h, first-ends text at h); bytes = rw (tokens-next text at h) }
+    record {
+      start = at;
+      end = dotFrom text at;
+      place = rw (tokens-next text at h, first-ends text at h);
+      within = (dot-from text at, dot-within text at h);
+      bytes = rw (tokens-next text at h);
+    }
 
 placed-next : (text : List ℕ) (at n : ℕ) → at ≤ length text → Placed text (dotFrom text at + 1) (tokensFrom text (dotFrom text at + 1)) n
     → Placed text at (tokensFrom text at) (suc n)
 placed-next text at n h p =
-    record { start = p .start; end = p .end; place = place-next text at h n ∙ p .place; bytes = rw (tokens-next text at h) (p .bytes) }
+    record {
+      start = p .start;
+      end = p .end;
+      place = place-next text at h n ∙ p .place;
+      within = p .within;
+      bytes = rw (tokens-next text at h) (p .bytes);
+    }
 
 -- where a token is left, the text has not ended
 not-ended : (text : List ℕ) (at n : ℕ) → n < length (tokensFrom text at) → at ≤ length text
@@ -150,7 +163,7 @@ placed-from text (suc n) at h =
     let k = not-ended text at (suc n) h in
     placed-next text at n k (placed-from text n (dotFrom text at + 1) (omega (arith, ap length (tokens-next text at k))))
 
--- token n of a text has a place, where the text has its bytes
+-- token n of a text has a place within it, where the text has its bytes
 pub nth-placed : (text : List ℕ) (n : ℕ) → n < length (tokens text) → Placed text 0 (tokens text) n
 nth-placed text n h = rw (tokens-start text) at (placed-from text n 0 (rw (tokens-start text) h))
 
