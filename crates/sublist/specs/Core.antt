@@ -23,7 +23,8 @@ use Rattle.sublist.specs.Answers.{buildRefusal}
 use Rattle.sublist_entries.specs.Entries.{linesOf}
 use Rattle.sublist.specs.Building.{badEntries, needed, overLimit}
 use Rattle.sublist.specs.Leaving.{BuildOutcome}
-use Rattle.sublist.specs.Passes.{End, end, Growth, growth, stopped, linesIn, settled, Filling, filling, lastPasses}
+use Rattle.sublist.specs.Passes.{End, end, Growth, growth, stopped, linesIn}
+use Rattle.sublist.specs.Passes.{settled, Filling, filling, lastPasses}
 
 -- the refusal of an entry, if there is one
 abbrev pub checked : EntryCheck → Option Answer
@@ -116,7 +117,8 @@ abbrev pub ifBad : Option Answer → Filling → Filling → Filling
 ifBad (some r) before after = before
 ifBad none before after = after
 
--- what build answers: so many entries, which the list holds if they are at most 2048, the text store, the nodes' words, how many targets are lent, the generation
+-- what build answers: so many entries, which the list holds if they are at most 2048, the text store, the nodes' words,
+-- how many targets are lent, the generation
 unfoldable pub builtBy : ℕ → List Entry → List ℕ → List ℕ → ℕ → ℕ → Answer
 builtBy count es store a places generation =
     pick (ltb 2048 count) (answer 10 [])
@@ -125,7 +127,8 @@ builtBy count es store a places generation =
 -- what it leaves in the words of nodes and of targets
 unfoldable pub leavesBy : ℕ → List Entry → List ℕ → List ℕ → List ℕ → Filling
 leavesBy count es store a ts =
-    pick (ltb 2048 count) (filling a ts) (ifBad (badEntries store 0 es) (filling a ts) (leftBy count (targetsOf es) ts (allIn es store a)))
+    pick (ltb 2048 count) (filling a ts)
+    (ifBad (badEntries store 0 es) (filling a ts) (leftBy count (targetsOf es) ts (allIn es store a)))
 
 -- both
 abbrev pub coreInto : ℕ → List Entry → List ℕ → List ℕ → List ℕ → ℕ → BuildOutcome

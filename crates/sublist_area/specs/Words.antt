@@ -1,7 +1,8 @@
 -- The nodes of a table in an area of words, sixteen words a node, read with no regard to whether they make sense.
 -- Words of a node:  0, 1 the hash of its token, low word first;  2 the first literal child;  3 the `*` child;
 --   4, 5 start and count of its exact targets;  6, 7 start and count of its `>` targets;
---   8 to 11 the next literal sibling, by two bits of the hash sought;  12 its parent;  13 to 15 are 0 (two of them are kept for the place of its token).
+--   8 to 11 the next literal sibling, by two bits of the hash sought;  12 its parent;
+--   13 to 15 are 0 (two of them are kept for the place of its token).
 -- A node's number is its place in the area. The root is node 0, and no node's child: as a child, 0 is none.
 use Prim.Native.Nat.{ℕ, zero, suc, _+_, _*_, _/_, _%_}
 use mathlib.Core.Bool.{Bool, true, false}
@@ -31,7 +32,8 @@ tokenKey t = pick (isStar t) star (lit (fnv t))
 abbrev pub hashIs : List ℕ → ℕ → ℕ → Bool
 hashIs a i h = and (eqb (word a i 0) (h % 4294967296)) (eqb (word a i 1) (h / 4294967296))
 
--- what the test of a node says: it is the one sought; it is another; or what it is to be compared with lies outside, which is damage
+-- what the test of a node says: it is the one sought; it is another; or what it is to be compared with lies outside,
+-- which is damage
 pub data Met : Type 0 where
   Here : Met
   Passed : Met
@@ -54,8 +56,9 @@ byHash a h i = told (hashIs a i h)
 abbrev pub outside : List ℕ → ℕ → ℕ → Bool
 outside a n i = or (ltb (length a / 16) n) (leb n i)
 
--- the sibling that the test meets on the chain that starts in word `link`, among n nodes and within so many steps; `rest` is what is left of the hash sought to choose the way.
--- Missing says in which word its number would stand. A chain that does not end within the steps is damaged, and so is a number of no node.
+-- the sibling that the test meets on the chain that starts in word `link`, among n nodes and within so many steps;
+-- `rest` is what is left of the hash sought to choose the way. Missing says in which word its number would stand.
+-- A chain that does not end within the steps is damaged, and so is a number of no node.
 unfoldable pub seek : (ℕ → Met) → List ℕ → ℕ → ℕ → ℕ → ℕ → Child
 seek test a n rest zero link = pick (eqb (getD a link 0) 0) (Missing link) Damaged
 seek test a n rest (suc steps) link =
