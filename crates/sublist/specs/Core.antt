@@ -20,7 +20,7 @@ use Rattle.sublist.specs.declared.Ended.the-variants as ended
 use Rattle.sublist.specs.declared.Grown.{Grown}
 use Rattle.sublist.specs.declared.Grown.the-variants as all
 use Rattle.sublist.specs.Answers.{buildRefusal}
-use Rattle.sublist_entries.specs.Entries.{linesOf}
+use Rattle.sublist_entries.specs.Entries.{targetWord, linesOf}
 use Rattle.sublist.specs.Building.{badEntries, needed, overLimit}
 use Rattle.sublist.specs.Leaving.{BuildOutcome}
 use Rattle.sublist.specs.Passes.{End, end, Growth, growth, stopped, linesIn}
@@ -89,7 +89,7 @@ rootWorst a = max 1 (word a 0 4 + word a 0 6)
 
 -- the targets, as words
 abbrev pub targetsOf : List Entry → List ℕ
-targetsOf es = map (λ e. e .target % 4294967296) es
+targetsOf es = map targetWord es
 
 -- behind the first pass, of so many entries: 14 with the count needed, 15 of the targets lent, 16; the generation
 abbrev pub answerBy : ℕ → ℕ → ℕ → ℕ → Growth → Answer

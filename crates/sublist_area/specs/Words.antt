@@ -82,12 +82,3 @@ starChild a n i =
 abbrev pub childOf : List ℕ → ℕ → ℕ → Key ℕ → Child
 childOf a n i star = starChild a n i
 childOf a n i (lit h) = literalChild a n i h
-
--- the same for keys of any kind, by the test of a node for a key and the key's hash
-unfoldable pub sought : (ℕ → Met) → List ℕ → ℕ → ℕ → ℕ → Child
-sought test a n i h = pick (outside a n i) Damaged (seek test a n h n (i * 16 + 2))
-
-module _ {K : Type 0} (test : List ℕ → K → ℕ → Met) (hash : K → ℕ) where
-  abbrev pub childBy : List ℕ → ℕ → ℕ → Key K → Child
-  childBy a n i star = starChild a n i
-  childBy a n i (lit x) = sought (test a x) a n i (hash x)
