@@ -19,12 +19,12 @@ use Rattle.sublist_trie.proofs.Runs.{size-pos}
 use Rattle.sublist_trie.specs.Ends.{endsOf}
 use Rattle.sublist_area.specs.Words.{word}
 use Rattle.sublist_area.specs.Growing.{planted}
-use Rattle.sublist_area.proofs.Stores.{planted-behind, length-planted}
+use Rattle.sublist_area.proofs.Stores.{planted-behind}
 use Rattle.sublist_walk.specs.Holds.{Holds}
 use Rattle.sublist_entries.specs.declared.Entry.{Entry}
 use Rattle.sublist_entries.specs.Entries.{textOf, targetWord, readFrom, linesOf}
 use Rattle.sublist.specs.Building.{invalid, badEntry, badEntries, needed, worstOf, overLimit, buildSays}
-use Rattle.sublist.specs.Passes.{End, end, Growth, growth, stopped, linesIn, counted, countWord, startWord, nodeWorst, told, settled, laidAt, laid, Filling, filling, filledBy, filled, lastPasses}
+use Rattle.sublist.specs.Passes.{End, end, Growth, growth, stopped, linesIn, counted, countWord, startWord, nodeWorst, told, settled, laidAt, laid, filling, filledBy, filled, lastPasses}
 use Rattle.sublist.specs.Leaving.{finished, started, buildLeaves}
 use Rattle.sublist.proofs.Filling.{nodeOf}
 use Rattle.sublist.specs.Passes.{nodeWordsIn, targetWordsIn}

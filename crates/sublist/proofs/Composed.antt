@@ -1,42 +1,39 @@
 -- The passes together: what the core of build answers and leaves is what the definitions say of the entries.
-use Prim.Native.Nat.{ℕ, zero, suc, _+_, _-_, _*_, _/_, _%_, _<_, _≤_, _^_, max, min}
+use Prim.Native.Nat.{ℕ, suc, _+_, _-_, _*_, _/_, _<_, _≤_, _^_}
 use native.Mathlib.Omega.{arith}
-use mathlib.Core.Path.{_≡_, refl, sym, ap, _∙_, subst}
+use mathlib.Core.Path.{_≡_, refl, sym, ap, _∙_}
 use mathlib.Core.Bool.{Bool, true, false}
-use mathlib.Core.Logic.{_⊎_, inl, inr}
-use mathlib.Core.List.{List, [], _∷_, _++_, map}
+use mathlib.Core.Logic.{inl, inr}
+use mathlib.Core.List.{List, [], _∷_, map}
 use mathlib.Core.Option.{Option, none, some}
 use lib.Dec.{eqb, ltb}
-use lib.ListN.{length, getD, length-map}
-use borrow.Author.Tests.{lt-ltb, le-ltb, ltb-true, ltb-false}
+use lib.ListN.{length, length-map}
+use borrow.Author.Tests.{le-ltb, ltb-true, ltb-false}
 use Rattle.subject.specs.Choice.{pick}
 use Rattle.subject.specs.Text.{tokens, isStar, isTail}
 use Rattle.subject.specs.Fnv.{fnv}
 use Rattle.subject.specs.Answers.{Answer, answer, unless}
 use Rattle.sublist_tree.specs.Lists.{All}
-use Rattle.sublist_tree.specs.Tree.{Key, star, lit, Line, line, onto, lineOf, targetOf, worst}
-use Rattle.sublist_tree.specs.Nodes.{nodes}
-use Rattle.sublist_tree.specs.Table.{TableEntry, Accepted, rootOf}
-use Rattle.sublist_tree.proofs.Fork.{Within, depthOf, worst-length}
+use Rattle.sublist_tree.specs.Tree.{Key, star, lit, Line, line, onto, lineOf, targetOf}
+use Rattle.sublist_tree.specs.Table.{Accepted}
+use Rattle.sublist_tree.proofs.Fork.{Within, worst-length}
 use Rattle.sublist_tree.proofs.Route.{root-within}
 use Rattle.sublist_tree.proofs.Bytes.{eqb-sound, eqb-whole}
-use Rattle.sublist_trie.specs.Trie.{Trie, root, grow, size, child, insT, keysOf, builtFrom, built}
-use Rattle.sublist_trie.specs.Ends.{endsFrom, endsOf}
+use Rattle.sublist_trie.specs.Trie.{Trie, root, grow, size, child, insT, builtFrom, built}
+use Rattle.sublist_trie.specs.Ends.{endsOf}
 use Rattle.sublist_trie.proofs.Children.{built-for}
 use Rattle.sublist_trie.proofs.Runs.{size-pos}
 use Rattle.sublist_trie.proofs.Sizes.{size-nodes}
-use Rattle.sublist_area.specs.Words.{word}
 use Rattle.sublist_area.specs.Growing.{planted}
 use Rattle.sublist_area.proofs.Stores.{length-planted}
-use Rattle.sublist_area.proofs.Grown.{Fits}
 use Rattle.sublist_entries.specs.declared.Entry.{Entry}
 use Rattle.sublist_entries.specs.Entries.{textOf, targetWord, readFrom, linesOf}
 use Rattle.sublist.specs.Building.{badEntries, needed, worstOf, overLimit, buildSays}
-use Rattle.sublist.specs.Passes.{End, Growth, growth, stopped, nodeWorst, linesIn, settled, Filling, filling, lastPasses}
+use Rattle.sublist.specs.Passes.{End, growth, stopped, linesIn, settled, filling, lastPasses}
 use Rattle.sublist.specs.Leaving.{finished, started, buildLeaves, buildInto}
 use Rattle.sublist.specs.Core.{rootWorst, targetsOf, allIn, answerBy, leftBy, ifBad, builtBy, leavesBy, coreInto}
 use Rattle.sublist.proofs.AcceptedEntries.{Sound, sound-entries}
-use Rattle.sublist.proofs.Entering.{toEnd, Entered, AllIn, Stopped, Outcome, enters}
+use Rattle.sublist.proofs.Entering.{toEnd, Entered, AllIn, Outcome, enters}
 use Rattle.sublist.proofs.Standing.{targetEnd, all-targets, entered-root, worst-found}
 
 -- sound entries are accepted patterns

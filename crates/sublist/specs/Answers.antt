@@ -1,9 +1,10 @@
 -- 01's numbers and values for the answers of a build.
-use Prim.Native.Nat.{ℕ, suc, zero}
+use Prim.Native.Nat.{ℕ}
 use mathlib.Core.List.{List, [], _∷_}
 use Rattle.subject.specs.Answers.{Answer, answer, refusal}
 use Rattle.sublist.specs.declared.SublistError.{SublistError}
-use Rattle.sublist.specs.declared.SublistError.the-variants.{EntriesFull, BadEntry, InvalidPattern, NodesFull, TargetsFull, ForkLimitExceeded}
+use Rattle.sublist.specs.declared.SublistError.the-variants.{EntriesFull, BadEntry, InvalidPattern}
+use Rattle.sublist.specs.declared.SublistError.the-variants.{NodesFull, TargetsFull, ForkLimitExceeded}
 use Rattle.sublist.specs.declared.Built.{Built}
 use Rattle.sublist.specs.declared.Built.the-variants.{Table, Refused}
 use Rattle.sublist.specs.Building.{held}

@@ -1,6 +1,6 @@
 -- What build answers, said of the entries alone: 10; entry by entry 12 before 13; then 14, 15, 16.
 use Prim.Native.Nat.{ℕ, zero, suc, _+_}
-use mathlib.Core.Bool.{Bool, true, false}
+use mathlib.Core.Bool.{Bool, true}
 use mathlib.Core.List.{List, [], _∷_}
 use mathlib.Core.Option.{Option, none, some}
 use lib.Dec.{ltb, eqb}
@@ -8,7 +8,7 @@ use lib.ListN.{length}
 use Rattle.subject.specs.Choice.{pick}
 use Rattle.subject.specs.Answers.{Answer, answer, unless}
 use Rattle.subject.specs.Grammar.{grammar, firstOf}
-use Rattle.sublist_tree.specs.Tree.{Line, worst}
+use Rattle.sublist_tree.specs.Tree.{worst}
 use Rattle.sublist_tree.specs.Nodes.{nodes}
 use Rattle.sublist_entries.specs.declared.Entry.{Entry}
 use Rattle.sublist_entries.specs.Entries.{textOf, linesOf}
@@ -24,7 +24,9 @@ invalid (answer (suc n) values) = some (held (answer (suc n) values))
 
 -- 12 before 13
 abbrev pub badEntry : List ℕ → ℕ → Entry → Option Answer
-badEntry store index e = pick (ltb (length store) (e .start + e .length)) (some (answer 12 (index ∷ []))) (invalid (grammar true (textOf store e)))
+badEntry store index e =
+    pick (ltb (length store) (e .start + e .length)) (some (answer 12 (index ∷ [])))
+    (invalid (grammar true (textOf store e)))
 
 abbrev pub badEntries : List ℕ → ℕ → List Entry → Option Answer
 badEntries store index [] = none

@@ -20,10 +20,11 @@ use Rattle.sublist.specs.declared.Ended.the-variants as ended
 use Rattle.sublist.specs.declared.Grown.{Grown}
 use Rattle.sublist.specs.declared.Grown.the-variants as all
 use Rattle.sublist.specs.Answers.{buildRefusal}
-use Rattle.sublist_entries.specs.Entries.{linesOf}
+use Rattle.sublist_entries.specs.Entries.{targetWord, linesOf}
 use Rattle.sublist.specs.Building.{badEntries, needed, overLimit}
 use Rattle.sublist.specs.Leaving.{BuildOutcome}
-use Rattle.sublist.specs.Passes.{End, end, Growth, growth, stopped, linesIn, settled, Filling, filling, lastPasses}
+use Rattle.sublist.specs.Passes.{End, end, Growth, growth, stopped, linesIn}
+use Rattle.sublist.specs.Passes.{settled, Filling, filling, lastPasses}
 
 -- the refusal of an entry, if there is one
 abbrev pub checked : EntryCheck → Option Answer
@@ -88,7 +89,7 @@ rootWorst a = max 1 (word a 0 4 + word a 0 6)
 
 -- the targets, as words
 abbrev pub targetsOf : List Entry → List ℕ
-targetsOf es = map (λ e. e .target % 4294967296) es
+targetsOf es = map targetWord es
 
 -- behind the first pass, of so many entries: 14 with the count needed, 15 of the targets lent, 16; the generation
 abbrev pub answerBy : ℕ → ℕ → ℕ → ℕ → Growth → Answer
@@ -116,7 +117,8 @@ abbrev pub ifBad : Option Answer → Filling → Filling → Filling
 ifBad (some r) before after = before
 ifBad none before after = after
 
--- what build answers: so many entries, which the list holds if they are at most 2048, the text store, the nodes' words, how many targets are lent, the generation
+-- what build answers: so many entries, which the list holds if they are at most 2048, the text store, the nodes' words,
+-- how many targets are lent, the generation
 unfoldable pub builtBy : ℕ → List Entry → List ℕ → List ℕ → ℕ → ℕ → Answer
 builtBy count es store a places generation =
     pick (ltb 2048 count) (answer 10 [])
@@ -125,7 +127,8 @@ builtBy count es store a places generation =
 -- what it leaves in the words of nodes and of targets
 unfoldable pub leavesBy : ℕ → List Entry → List ℕ → List ℕ → List ℕ → Filling
 leavesBy count es store a ts =
-    pick (ltb 2048 count) (filling a ts) (ifBad (badEntries store 0 es) (filling a ts) (leftBy count (targetsOf es) ts (allIn es store a)))
+    pick (ltb 2048 count) (filling a ts)
+    (ifBad (badEntries store 0 es) (filling a ts) (leftBy count (targetsOf es) ts (allIn es store a)))
 
 -- both
 abbrev pub coreInto : ℕ → List Entry → List ℕ → List ℕ → List ℕ → ℕ → BuildOutcome

@@ -1,11 +1,12 @@
--- What a build does to the words lent for nodes and targets, pass by pass. A line is the keys of a pattern, whether `>` follows, and its target.
+-- What a build does to the words lent for nodes and targets, pass by pass.
+-- A line is the keys of a pattern, whether `>` follows, and its target.
 use Prim.Native.Nat.{ℕ, zero, suc, _+_, _-_, _*_, _%_, max, min}
 use mathlib.Core.Bool.{Bool, true, false}
 use mathlib.Core.List.{List, [], _∷_, _++_}
 use lib.Dec.{ltb, eqb}
 use lib.ListN.{set}
 use Rattle.subject.specs.Choice.{pick}
-use Rattle.sublist_tree.specs.Tree.{Key, Line, line}
+use Rattle.sublist_tree.specs.Tree.{Line, line}
 use Rattle.sublist_area.specs.declared.Placed.{Placed}
 use Rattle.sublist_area.specs.declared.Placed.the-variants.{At, Full, Broken}
 use Rattle.sublist_area.specs.Words.{word}
@@ -47,14 +48,16 @@ unfoldable pub linesIn : Growth → List (Line ℕ) → Growth
 linesIn g [] = g
 linesIn g (l ∷ ls) = linesIn (lineIn g l) ls
 
--- second pass, from the last node to the first: a node's worst case, from those of its `*` child (word 4) and of its literal children (word 6), told to its parent
+-- second pass, from the last node to the first: a node's worst case, from those of its `*` child (word 4) and of its
+-- literal children (word 6), told to its parent
 abbrev pub nodeWorst : List ℕ → ℕ → ℕ
 nodeWorst a i = min (max 1 (word a i 4 + word a i 6)) 4294967295
 
 unfoldable pub told : List ℕ → ℕ → ℕ → List ℕ
 told a i p =
     pick (ltb p i)
-    (pick (eqb (word a p 3) i) (set a (p * 16 + 4) (nodeWorst a i)) (set a (p * 16 + 6) (max (word a p 6) (nodeWorst a i))))
+    (pick (eqb (word a p 3) i) (set a (p * 16 + 4) (nodeWorst a i))
+    (set a (p * 16 + 6) (max (word a p 6) (nodeWorst a i))))
     a
 
 unfoldable pub settled : List ℕ → ℕ → List ℕ
@@ -64,7 +67,8 @@ settled a (suc i) = settled (told a (suc i) (word a (suc i) 12)) i
 -- third pass: where each node's targets start, exact ones before `>` ones; the counts start again at 0
 unfoldable pub laidAt : List ℕ → ℕ → ℕ → List ℕ
 laidAt a i from =
-    set (set (set (set a (i * 16 + 4) from) (i * 16 + 5) 0) (i * 16 + 6) ((from + word a i 5) % 4294967296)) (i * 16 + 7) 0
+    set (set (set (set a (i * 16 + 4) from) (i * 16 + 5) 0)
+    (i * 16 + 6) ((from + word a i 5) % 4294967296)) (i * 16 + 7) 0
 
 -- the nodes i to i + left - 1, their targets from a place on
 unfoldable pub laid : List ℕ → ℕ → ℕ → ℕ → List ℕ

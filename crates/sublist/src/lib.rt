@@ -37,9 +37,10 @@ use sublist_entries::MAX_ENTRIES;
 use sublist_entries::put_entry;
 use sublist_walk::MAX_FORK_FRONTIER;
 
-// How many values a word has, and the largest.
+// How many values a word has.
 const WORD: usize = 4294967296;
 
+// The largest of them.
 const MAX_WORD: u32 = 4294967295;
 
 // Why a build is refused: 01's numbers 10 and 12 to 16, in order.

@@ -15,8 +15,9 @@ use Rattle.sublist_trie.specs.Trie.{Trie, grow, size, child, insT}
 use Rattle.sublist_trie.proofs.Runs.{pick-ind, child-less}
 use Rattle.sublist_area.specs.declared.Placed.{Placed}
 use Rattle.sublist_area.specs.declared.Placed.the-variants.{At, Full}
-use Rattle.sublist_area.specs.Words.{Met, word, childBy}
-use Rattle.sublist_area.specs.Growing.{hashOf, hashed, childOrNewBy, onwardBy, grownBy}
+use Rattle.sublist_area.specs.Words.{Met, word}
+use Rattle.sublist_area.specs.Growing.{hashOf}
+use Rattle.sublist_area.proofs.AnyKeys.{hashed, childBy, childOrNewBy, onwardBy, grownBy}
 use Rattle.sublist_area.proofs.Ways.{way-node, way-full, way-many, way-new}
 use Rattle.sublist_area.proofs.Places.{place, NoLink, place-less, place-else}
 use Rattle.sublist_area.proofs.Rep.{Keys, Written, RepBy}

@@ -14,8 +14,9 @@ use Rattle.sublist_trie.specs.Trie.{Trie, root, size, child, insT}
 use Rattle.sublist_area.specs.declared.Child.the-variants.{Node, Missing}
 use Rattle.sublist_area.specs.declared.Placed.{Placed}
 use Rattle.sublist_area.specs.declared.Placed.the-variants.{At, Full, Broken}
-use Rattle.sublist_area.specs.Words.{told, word, hashIs, byHash, literalChild, childOf, sought, childBy}
-use Rattle.sublist_area.specs.Growing.{planted, childOrNew, onward, grown, childOrNewBy, onwardBy, grownBy}
+use Rattle.sublist_area.specs.Words.{told, word, hashIs, byHash, literalChild, childOf}
+use Rattle.sublist_area.specs.Growing.{planted, childOrNew, onward, grown}
+use Rattle.sublist_area.proofs.AnyKeys.{sought, childBy, childOrNewBy, onwardBy, grownBy}
 use Rattle.sublist_area.proofs.Places.{eqb-same, place}
 use Rattle.sublist_area.proofs.Rep.{Keys, Written, RepBy}
 use Rattle.sublist_area.proofs.Grown.{GrewBy, PutInBy, RunEndsBy}

@@ -1,4 +1,5 @@
 -- Laws of the nodes of an area.
+pub mod AnyKeys
 pub mod Turns
 pub mod Ways
 pub mod Places

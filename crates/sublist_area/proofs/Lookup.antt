@@ -13,13 +13,14 @@ use Rattle.sublist_tree.specs.Tree.{Key, star, lit}
 use Rattle.sublist_trie.specs.Trie.{Trie, size, child}
 use Rattle.sublist_trie.proofs.Runs.{child-less}
 use Rattle.sublist_area.specs.declared.Child.the-variants.{Node, Missing}
-use Rattle.sublist_area.specs.Words.{Met, told, word, seek, starChild, sought, childBy}
+use Rattle.sublist_area.specs.Words.{Met, told, word, seek, starChild}
 use Rattle.sublist_area.proofs.Turns.{seek-none, at-next, at-hit}
 use Rattle.sublist_area.proofs.Ways.{sought-in, star-none, star-there}
 use Rattle.sublist_area.proofs.Places.{place, link, keyAt, link-less, link-star, sited, place-free}
 use Rattle.sublist_area.proofs.Paths.{Passes, here, past, Ends, Search, search}
 use Rattle.sublist_area.proofs.Rep.{Keys, RepBy, answer}
-use Rattle.sublist_area.specs.Growing.{hashOf, hashed}
+use Rattle.sublist_area.specs.Growing.{hashOf}
+use Rattle.sublist_area.proofs.AnyKeys.{hashed, sought, childBy}
 
 module _ {K : Type 0} {eq : K → K → Bool} {hash : K → ℕ} {test : List ℕ → K → ℕ → Met} {Named : List ℕ → ℕ → K → Type 0} (L : Keys eq hash test Named) where
   module _ (a : List ℕ) (t : Trie K) (r : RepBy eq hash Named a t) where

@@ -11,7 +11,8 @@ use Rattle.subject.specs.Choice.{pick}
 use Rattle.sublist_tree.specs.Tree.{Key, star, lit, keyIs}
 use Rattle.sublist_trie.specs.Trie.{Trie, root, grow, size, parentOf, child, Good}
 use Rattle.sublist_trie.proofs.Runs.{pick-ind, size-pos, parent-new, parent-old, child-new}
-use Rattle.sublist_area.specs.Growing.{hashOf, hashed}
+use Rattle.sublist_area.specs.Growing.{hashOf}
+use Rattle.sublist_area.proofs.AnyKeys.{hashed}
 
 module _ {K : Type 0} where
   -- the word where the search for a key starts

@@ -12,7 +12,8 @@ use Rattle.sublist_tree.specs.Tree.{Key, lit}
 use Rattle.sublist_trie.specs.Trie.{Trie, root, grow, size, parentOf, child, Good}
 use Rattle.sublist_trie.proofs.Runs.{parent-new, parent-old}
 use Rattle.sublist_area.specs.Words.{Met, word}
-use Rattle.sublist_area.specs.Growing.{fresh, hashOf, hashed, added, planted}
+use Rattle.sublist_area.specs.Growing.{fresh, hashOf, added, planted}
+use Rattle.sublist_area.proofs.AnyKeys.{hashed}
 use Rattle.sublist_area.proofs.Places.{place, link, keyAt, hashAt, NoLink, link-new, link-old, key-new, key-old, hash-new, hash-old, link-out, place-less, place-else}
 use Rattle.sublist_area.proofs.Stores.{fresh-zero, added-new, added-link, added-old, length-added, planted-zero, length-planted}
 use Rattle.sublist_area.proofs.Rep.{Keys, Written, RepBy}

@@ -14,8 +14,9 @@ use Rattle.sublist_area.specs.declared.Child.{Child}
 use Rattle.sublist_area.specs.declared.Child.the-variants.{Node, Missing, Damaged}
 use Rattle.sublist_area.specs.declared.Placed.{Placed}
 use Rattle.sublist_area.specs.declared.Placed.the-variants.{At, Full, Broken}
-use Rattle.sublist_area.specs.Words.{Met, word, hashIs, byHash, outside, seek, literalChild, starChild, sought}
+use Rattle.sublist_area.specs.Words.{Met, word, hashIs, byHash, outside, seek, literalChild, starChild}
 use Rattle.sublist_area.specs.Growing.{hashOf, added, placed, childOrNew}
+use Rattle.sublist_area.proofs.AnyKeys.{sought}
 use Rattle.sublist_tree.specs.Tree.{Key, star, lit}
 use Rattle.sublist_area.proofs.Turns.{Below, seek-below, below-missing}
 

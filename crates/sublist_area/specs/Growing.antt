@@ -1,6 +1,5 @@
 -- Putting nodes into an area: the child of a node by a key, made where it is missing, and a whole run of keys.
-use Prim.Native.Nat.{ℕ, zero, suc, _+_, _*_, _/_, _%_}
-use mathlib.Core.Bool.{Bool, true, false}
+use Prim.Native.Nat.{ℕ, _+_, _*_, _/_, _%_}
 use mathlib.Core.List.{List, [], _∷_}
 use lib.Dec.{ltb, leb}
 use lib.ListN.{length, set}
@@ -10,7 +9,7 @@ use Rattle.sublist_area.specs.declared.Child.{Child}
 use Rattle.sublist_area.specs.declared.Child.the-variants.{Node, Missing, Damaged}
 use Rattle.sublist_area.specs.declared.Placed.{Placed}
 use Rattle.sublist_area.specs.declared.Placed.the-variants.{At, Full, Broken}
-use Rattle.sublist_area.specs.Words.{Met, childOf, childBy}
+use Rattle.sublist_area.specs.Words.{childOf}
 use Rattle.sublist_tree.specs.Tree.{Key, star, lit}
 
 -- the words of a new node with the hash h below node p
@@ -22,11 +21,6 @@ fresh h p =
 abbrev pub hashOf : Key ℕ → ℕ
 hashOf star = 0
 hashOf (lit h) = h
-
--- a key of any kind as its hash
-abbrev pub hashed : {K : Type 0} → (K → ℕ) → Key K → Key ℕ
-hashed hash star = star
-hashed hash (lit x) = lit (hash x)
 
 -- node n, new below node p; its number goes into the word `link`
 unfoldable pub added : List ℕ → ℕ → ℕ → ℕ → ℕ → List ℕ
@@ -53,20 +47,6 @@ onward Broken a k = (Broken, a)
 unfoldable pub grown : Placed × List ℕ → List (Key ℕ) → Placed × List ℕ
 grown s [] = s
 grown s (k ∷ ks) = grown (onward (s .0) (s .1) k) ks
-
--- the same for keys of any kind
-module _ {K : Type 0} (test : List ℕ → K → ℕ → Met) (hash : K → ℕ) where
-  unfoldable pub childOrNewBy : List ℕ → ℕ → ℕ → Key K → Placed × List ℕ
-  childOrNewBy a n i k = placed (childBy test hash a n i k) a n i (hashed hash k)
-
-  unfoldable pub onwardBy : Placed → List ℕ → Key K → Placed × List ℕ
-  onwardBy (At i n) a k = childOrNewBy a n i k
-  onwardBy Full a k = (Full, a)
-  onwardBy Broken a k = (Broken, a)
-
-  unfoldable pub grownBy : Placed × List ℕ → List (Key K) → Placed × List ℕ
-  grownBy s [] = s
-  grownBy s (k ∷ ks) = grownBy (onwardBy (s .0) (s .1) k) ks
 
 -- the root alone
 unfoldable pub planted : List ℕ → List ℕ

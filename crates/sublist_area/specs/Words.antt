@@ -1,7 +1,8 @@
 -- The nodes of a table in an area of words, sixteen words a node, read with no regard to whether they make sense.
 -- Words of a node:  0, 1 the hash of its token, low word first;  2 the first literal child;  3 the `*` child;
 --   4, 5 start and count of its exact targets;  6, 7 start and count of its `>` targets;
---   8 to 11 the next literal sibling, by two bits of the hash sought;  12 its parent;  13 to 15 are 0 (two of them are kept for the place of its token).
+--   8 to 11 the next literal sibling, by two bits of the hash sought;  12 its parent;
+--   13 to 15 are 0 (two of them are kept for the place of its token).
 -- A node's number is its place in the area. The root is node 0, and no node's child: as a child, 0 is none.
 use Prim.Native.Nat.{ℕ, zero, suc, _+_, _*_, _/_, _%_}
 use mathlib.Core.Bool.{Bool, true, false}
@@ -31,7 +32,8 @@ tokenKey t = pick (isStar t) star (lit (fnv t))
 abbrev pub hashIs : List ℕ → ℕ → ℕ → Bool
 hashIs a i h = and (eqb (word a i 0) (h % 4294967296)) (eqb (word a i 1) (h / 4294967296))
 
--- what the test of a node says: it is the one sought; it is another; or what it is to be compared with lies outside, which is damage
+-- what the test of a node says: it is the one sought; it is another; or what it is to be compared with lies outside,
+-- which is damage
 pub data Met : Type 0 where
   Here : Met
   Passed : Met
@@ -54,8 +56,9 @@ byHash a h i = told (hashIs a i h)
 abbrev pub outside : List ℕ → ℕ → ℕ → Bool
 outside a n i = or (ltb (length a / 16) n) (leb n i)
 
--- the sibling that the test meets on the chain that starts in word `link`, among n nodes and within so many steps; `rest` is what is left of the hash sought to choose the way.
--- Missing says in which word its number would stand. A chain that does not end within the steps is damaged, and so is a number of no node.
+-- the sibling that the test meets on the chain that starts in word `link`, among n nodes and within so many steps;
+-- `rest` is what is left of the hash sought to choose the way. Missing says in which word its number would stand.
+-- A chain that does not end within the steps is damaged, and so is a number of no node.
 unfoldable pub seek : (ℕ → Met) → List ℕ → ℕ → ℕ → ℕ → ℕ → Child
 seek test a n rest zero link = pick (eqb (getD a link 0) 0) (Missing link) Damaged
 seek test a n rest (suc steps) link =
@@ -79,12 +82,3 @@ starChild a n i =
 abbrev pub childOf : List ℕ → ℕ → ℕ → Key ℕ → Child
 childOf a n i star = starChild a n i
 childOf a n i (lit h) = literalChild a n i h
-
--- the same for keys of any kind, by the test of a node for a key and the key's hash
-unfoldable pub sought : (ℕ → Met) → List ℕ → ℕ → ℕ → ℕ → Child
-sought test a n i h = pick (outside a n i) Damaged (seek test a n h n (i * 16 + 2))
-
-module _ {K : Type 0} (test : List ℕ → K → ℕ → Met) (hash : K → ℕ) where
-  abbrev pub childBy : List ℕ → ℕ → ℕ → Key K → Child
-  childBy a n i star = starChild a n i
-  childBy a n i (lit x) = sought (test a x) a n i (hash x)

@@ -1,6 +1,6 @@
 -- insert: 1 to 9, then 10, then 11; otherwise the text is appended and the entry written. A refusal changes nothing.
 use Prim.Native.Nat.{ℕ, zero, suc, _+_, _-_}
-use mathlib.Core.Bool.{Bool, true, false}
+use mathlib.Core.Bool.{true}
 use mathlib.Core.List.{List, [], _∷_}
 use mathlib.Core.Option.{Option, none, some}
 use lib.Dec.{ltb, leb}
@@ -16,7 +16,8 @@ use Rattle.sublist_entries.specs.declared.ListState.{ListState}
 abbrev pub entriesFull : ListState → ℕ → Option Answer
 entriesFull list places = pick (or (leb 2048 (list .entries)) (leb places (list .entries))) (some (answer 10 [])) none
 
--- 11: the pattern is longer than what is left of the text store, which is nothing if the bytes counted as used exceed it
+-- 11: the pattern is longer than what is left of the text store,
+-- which is nothing if the bytes counted as used exceed it
 abbrev pub textFull : ListState → ℕ → ℕ → Option Answer
 textFull list bytes size = pick (ltb (bytes - list .used) size) (some (answer 11 [])) none
 

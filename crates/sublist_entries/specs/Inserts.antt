@@ -1,4 +1,5 @@
--- Inserts one after another, each lent what the last one left, and what is asked of them in the terms of what was inserted alone.
+-- Inserts one after another, each lent what the last one left, and what is asked of them in the terms of what was
+-- inserted alone.
 use Prim.Native.Nat.{ℕ, zero, suc, _+_, _-_}
 use mathlib.Core.Path.{_≡_}
 use mathlib.Core.Bool.{true}
@@ -49,7 +50,8 @@ heldOn d = readFrom (d .store) (inUse (d .list) (d .places))
 abbrev pub bytesOf : List TableEntry → ℕ
 bytesOf taken = sum (map (λ e. length (e .pattern)) taken)
 
--- 1 to 9; 10 where 2,048 entries are taken or the lent list is full; 11 where the pattern is longer than what is left; otherwise the entries and bytes in use
+-- 1 to 9; 10 where 2,048 entries are taken or the lent list is full; 11 where the pattern is longer than what is left;
+-- otherwise the entries and bytes in use
 abbrev pub demanded : List TableEntry → Desk → TableEntry → Answer
 demanded taken d e =
     whenAccepted (grammar true (e .pattern))
@@ -60,9 +62,11 @@ demanded taken d e =
 -- an accepted insert joins those taken, its target a word
 abbrev pub takenAfter : List TableEntry → Desk → TableEntry → List TableEntry
 takenAfter taken d e =
-    afterAnswer (demanded taken d e) (taken ++ (record { pattern = e .pattern; target = word32 (e .target) } ∷ [])) taken
+    afterAnswer (demanded taken d e)
+    (taken ++ (record { pattern = e .pattern; target = word32 (e .target) } ∷ [])) taken
 
--- before every insert and behind the last the list holds what was taken, in order; and every insert is answered as demanded
+-- before every insert and behind the last the list holds what was taken, in order;
+-- and every insert is answered as demanded
 abbrev pub EachTaken : List TableEntry → Desk → List TableEntry → Type 0
 EachTaken taken d [] = heldOn d ≡ taken
 EachTaken taken d (e ∷ es) =

@@ -1,4 +1,5 @@
-// The list of entries: patterns by their places in a lent text store, with their targets. A port of IronBus's SublistBuilder, its `insert`.
+// The list of entries: patterns by their places in a lent text store, with their targets.
+// A port of IronBus's SublistBuilder, its `insert`.
 // An entry is a record, or three plain numbers: start, length, target.
 ghost use mathlib.Core.Path.{_≡_};
 ghost use Prim.Native.Nat.{_-_, _≤_};
@@ -156,7 +157,8 @@ pub fn insert(
     p.answer
 }
 
-// An entry's numbers are put where those of entry i belong: start, length, target. Where the words have no such place, nothing is.
+// An entry's numbers are put where those of entry i belong: start, length, target.
+// Where the words have no such place, nothing is.
 pub fn put_entry(words: &mut [usize], i: usize, e: Entry)
     ensures { λ _. ⌜ now (words .exit) ≡ putEntry (now (words .entry)) i e ⌝ }
 {

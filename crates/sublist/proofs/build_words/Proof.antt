@@ -43,10 +43,11 @@ finish-requires c κs =
     let d = c .before .before .before .before in
     let n = d .before .before .before .before .before .before in
     let s = n .before .before .before .before .before .before in
-    let r = s .before .before .before .before .before .before .pre in
+    let start = s .before .before .before .before .before .before in
+    let r = start .pre in
     let most = s .if1 .left in
     let fits = rw (d .total .given .1) at (n .grow-table .ensures .1) in
-    let same : length (n .grow-table .last .1 .1 .1 .0) ≡ length (s .before .before .before .before .before .before .args .node-words .now) = n .grow-table .kept .1 .1 .1 .0 in
+    let same : length (n .grow-table .last .1 .1 .1 .0) ≡ length (start .args .node-words .now) = n .grow-table .kept .1 .1 .1 .0 in
     (omega arith, rw (n .grow-table .kept .1 .1 .1 .1 .0) (omega arith), fits .0, rw same (fits .1), rw same (fits .2))
 
 returns-2 : tie.Need-returns-2

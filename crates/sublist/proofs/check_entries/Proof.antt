@@ -51,7 +51,8 @@ returns c =
     let k = c .before .before in
     let t = k .before .before .before in
     let l = t .before .loop in
-    checks-bad _ _ (l .i) _ _ (l .inv .0) (t .loop-test .taken) (t .before .before .before .before .pre) _ (k .check-entry .ensures) _ (c .enum-told2 .given .1)
+    let start = t .before .before .before .before in
+    checks-bad _ _ (l .i) _ _ (l .inv .0) (t .loop-test .taken) (start .pre) _ (k .check-entry .ensures) _ (c .enum-told2 .given .1)
 
 add-i : tie.Need-add-i Inv-loop μ-loop
 add-i c = search needs
@@ -64,7 +65,8 @@ loop-again c =
     let k = c .before .before in
     let t = k .before .before .before in
     let l = t .before .loop in
-    (checks-on _ _ (l .i) _ _ (l .inv .0) (t .loop-test .taken) (t .before .before .before .before .pre) _ (k .check-entry .ensures) (c .enum-told .given .1), search needs)
+    let start = t .before .before .before .before in
+    (checks-on _ _ (l .i) _ _ (l .inv .0) (t .loop-test .taken) (start .pre) _ (k .check-entry .ensures) (c .enum-told .given .1), search needs)
 
 returns-2 : tie.Need-returns-2 Inv-loop μ-loop
 returns-2 c =

@@ -29,7 +29,9 @@ abbrev μ-loop : tie.MeasureT-loop
 μ-loop words count store node-words₀ ends₀ total₀ i₀ node-words ends total i = count - i
 
 loop-holds : tie.Need-loop-holds Inv-loop μ-loop
-loop-holds c = (simp sub-zero, simp sub-zero (c .before .before .before .before .pre .3), refl, refl, λ k p. absurd (omega arith), search needs, search needs, search needs)
+loop-holds c =
+    let start = c .before .before .before .before in
+    (simp sub-zero, simp sub-zero (start .pre .3), refl, refl, λ k p. absurd (omega arith), search needs, search needs, search needs)
 
 mul-at : tie.Need-mul-at Inv-loop μ-loop
 mul-at c = search needs
@@ -53,7 +55,8 @@ add-to-2 : tie.Need-add-to-2 Inv-loop μ-loop
 add-to-2 c =
     let t = c .before .before in
     let l = t .before .loop in
-    omega (arith, sound-inside _ _ (l .i) _ (t .loop-test .taken) (t .before .before .before .before .before .before .pre .0) (l .inv .1))
+    let start = t .before .before .before .before .before .before in
+    omega (arith, sound-inside _ _ (l .i) _ (t .loop-test .taken) (start .pre .0) (l .inv .1))
 
 sub-insert-line : tie.Need-sub-insert-line Inv-loop μ-loop
 sub-insert-line c = search needs
@@ -65,7 +68,8 @@ part-insert-line-end : tie.Need-part-insert-line-end Inv-loop μ-loop
 part-insert-line-end c =
     let t = c .before .before .before in
     let l = t .before .loop in
-    omega (arith, sound-inside _ _ (l .i) _ (t .loop-test .taken) (t .before .before .before .before .before .before .pre .0) (l .inv .1))
+    let start = t .before .before .before .before .before .before in
+    omega (arith, sound-inside _ _ (l .i) _ (t .loop-test .taken) (start .pre .0) (l .inv .1))
 
 insert-line-requires : tie.Need-insert-line-requires Inv-loop μ-loop
 insert-line-requires c κs = search needs
@@ -94,7 +98,8 @@ same-length c =
 same-length-2 : tie.Need-same-length-2 Inv-loop μ-loop
 same-length-2 c =
     let k = c .before .before .before .before in
-    k .before .before .before .before .before .before .loop .inv .3
+    let l = k .before .before .before .before .before .before .loop in
+    l .inv .3
 
 returns : tie.Need-returns Inv-loop μ-loop
 returns c =

@@ -49,7 +49,8 @@ put-target-requires : tie.Need-put-target-requires Inv-loop μ-loop
 put-target-requires c κs =
     let t = c .before .before .before .before in
     let l = t .before .loop in
-    let b = t .before .before .before .before .before .before .pre .2 (l .i) (t .loop-test .taken) in
+    let start = t .before .before .before .before .before .before in
+    let b = start .pre .2 (l .i) (t .loop-test .taken) in
     omega arith
 
 add-i : tie.Need-add-i Inv-loop μ-loop

@@ -10,161 +10,161 @@ use Rattle.sublist_area.proofs.add_node.Tie as tie
 mul-at : tie.Need-mul-at
 mul-at c = search needs
 
-cast-area : tie.Need-cast-area
-cast-area c = search needs
+cast-node-words : tie.Need-cast-node-words
+cast-node-words c = search needs
 
-mul-area : tie.Need-mul-area
-mul-area c = search needs
+mul-node-words : tie.Need-mul-node-words
+mul-node-words c = search needs
 
-slice-write-area : tie.Need-slice-write-area
-slice-write-area c = search needs
+slice-write-node-words : tie.Need-slice-write-node-words
+slice-write-node-words c = search needs
 
-cast-area-2 : tie.Need-cast-area-2
-cast-area-2 c = search needs
+cast-node-words-2 : tie.Need-cast-node-words-2
+cast-node-words-2 c = search needs
 
-add-area : tie.Need-add-area
-add-area c = search needs
+add-node-words : tie.Need-add-node-words
+add-node-words c = search needs
 
-mul-area-2 : tie.Need-mul-area-2
-mul-area-2 c = search needs
+mul-node-words-2 : tie.Need-mul-node-words-2
+mul-node-words-2 c = search needs
 
-slice-write-area-2 : tie.Need-slice-write-area-2
-slice-write-area-2 c = simp length-set (omega arith)
+slice-write-node-words-2 : tie.Need-slice-write-node-words-2
+slice-write-node-words-2 c = simp length-set (omega arith)
 
-add-area-2 : tie.Need-add-area-2
-add-area-2 c = search needs
+add-node-words-2 : tie.Need-add-node-words-2
+add-node-words-2 c = search needs
 
-mul-area-3 : tie.Need-mul-area-3
-mul-area-3 c = search needs
+mul-node-words-3 : tie.Need-mul-node-words-3
+mul-node-words-3 c = search needs
 
-slice-write-area-3 : tie.Need-slice-write-area-3
-slice-write-area-3 c = simp length-set (omega arith)
+slice-write-node-words-3 : tie.Need-slice-write-node-words-3
+slice-write-node-words-3 c = simp length-set (omega arith)
 
-add-area-3 : tie.Need-add-area-3
-add-area-3 c = search needs
+add-node-words-3 : tie.Need-add-node-words-3
+add-node-words-3 c = search needs
 
-mul-area-4 : tie.Need-mul-area-4
-mul-area-4 c = search needs
+mul-node-words-4 : tie.Need-mul-node-words-4
+mul-node-words-4 c = search needs
 
-slice-write-area-4 : tie.Need-slice-write-area-4
-slice-write-area-4 c = simp length-set (omega arith)
+slice-write-node-words-4 : tie.Need-slice-write-node-words-4
+slice-write-node-words-4 c = simp length-set (omega arith)
 
-add-area-4 : tie.Need-add-area-4
-add-area-4 c = search needs
+add-node-words-4 : tie.Need-add-node-words-4
+add-node-words-4 c = search needs
 
-mul-area-5 : tie.Need-mul-area-5
-mul-area-5 c = search needs
+mul-node-words-5 : tie.Need-mul-node-words-5
+mul-node-words-5 c = search needs
 
-slice-write-area-5 : tie.Need-slice-write-area-5
-slice-write-area-5 c = simp length-set (omega arith)
+slice-write-node-words-5 : tie.Need-slice-write-node-words-5
+slice-write-node-words-5 c = simp length-set (omega arith)
 
-add-area-5 : tie.Need-add-area-5
-add-area-5 c = search needs
+add-node-words-5 : tie.Need-add-node-words-5
+add-node-words-5 c = search needs
 
-mul-area-6 : tie.Need-mul-area-6
-mul-area-6 c = search needs
+mul-node-words-6 : tie.Need-mul-node-words-6
+mul-node-words-6 c = search needs
 
-slice-write-area-6 : tie.Need-slice-write-area-6
-slice-write-area-6 c = simp length-set (omega arith)
+slice-write-node-words-6 : tie.Need-slice-write-node-words-6
+slice-write-node-words-6 c = simp length-set (omega arith)
 
-add-area-6 : tie.Need-add-area-6
-add-area-6 c = search needs
+add-node-words-6 : tie.Need-add-node-words-6
+add-node-words-6 c = search needs
 
-mul-area-7 : tie.Need-mul-area-7
-mul-area-7 c = search needs
+mul-node-words-7 : tie.Need-mul-node-words-7
+mul-node-words-7 c = search needs
 
-slice-write-area-7 : tie.Need-slice-write-area-7
-slice-write-area-7 c = simp length-set (omega arith)
+slice-write-node-words-7 : tie.Need-slice-write-node-words-7
+slice-write-node-words-7 c = simp length-set (omega arith)
 
-add-area-7 : tie.Need-add-area-7
-add-area-7 c = search needs
+add-node-words-7 : tie.Need-add-node-words-7
+add-node-words-7 c = search needs
 
-mul-area-8 : tie.Need-mul-area-8
-mul-area-8 c = search needs
+mul-node-words-8 : tie.Need-mul-node-words-8
+mul-node-words-8 c = search needs
 
-slice-write-area-8 : tie.Need-slice-write-area-8
-slice-write-area-8 c = simp length-set (omega arith)
+slice-write-node-words-8 : tie.Need-slice-write-node-words-8
+slice-write-node-words-8 c = simp length-set (omega arith)
 
-add-area-8 : tie.Need-add-area-8
-add-area-8 c = search needs
+add-node-words-8 : tie.Need-add-node-words-8
+add-node-words-8 c = search needs
 
-mul-area-9 : tie.Need-mul-area-9
-mul-area-9 c = search needs
+mul-node-words-9 : tie.Need-mul-node-words-9
+mul-node-words-9 c = search needs
 
-slice-write-area-9 : tie.Need-slice-write-area-9
-slice-write-area-9 c = simp length-set (omega arith)
+slice-write-node-words-9 : tie.Need-slice-write-node-words-9
+slice-write-node-words-9 c = simp length-set (omega arith)
 
-add-area-9 : tie.Need-add-area-9
-add-area-9 c = search needs
+add-node-words-9 : tie.Need-add-node-words-9
+add-node-words-9 c = search needs
 
-mul-area-10 : tie.Need-mul-area-10
-mul-area-10 c = search needs
+mul-node-words-10 : tie.Need-mul-node-words-10
+mul-node-words-10 c = search needs
 
-slice-write-area-10 : tie.Need-slice-write-area-10
-slice-write-area-10 c = simp length-set (omega arith)
+slice-write-node-words-10 : tie.Need-slice-write-node-words-10
+slice-write-node-words-10 c = simp length-set (omega arith)
 
-add-area-10 : tie.Need-add-area-10
-add-area-10 c = search needs
+add-node-words-10 : tie.Need-add-node-words-10
+add-node-words-10 c = search needs
 
-mul-area-11 : tie.Need-mul-area-11
-mul-area-11 c = search needs
+mul-node-words-11 : tie.Need-mul-node-words-11
+mul-node-words-11 c = search needs
 
-slice-write-area-11 : tie.Need-slice-write-area-11
-slice-write-area-11 c = simp length-set (omega arith)
+slice-write-node-words-11 : tie.Need-slice-write-node-words-11
+slice-write-node-words-11 c = simp length-set (omega arith)
 
-add-area-11 : tie.Need-add-area-11
-add-area-11 c = search needs
+add-node-words-11 : tie.Need-add-node-words-11
+add-node-words-11 c = search needs
 
-mul-area-12 : tie.Need-mul-area-12
-mul-area-12 c = search needs
+mul-node-words-12 : tie.Need-mul-node-words-12
+mul-node-words-12 c = search needs
 
-slice-write-area-12 : tie.Need-slice-write-area-12
-slice-write-area-12 c = simp length-set (omega arith)
+slice-write-node-words-12 : tie.Need-slice-write-node-words-12
+slice-write-node-words-12 c = simp length-set (omega arith)
 
-add-area-12 : tie.Need-add-area-12
-add-area-12 c = search needs
+add-node-words-12 : tie.Need-add-node-words-12
+add-node-words-12 c = search needs
 
-mul-area-13 : tie.Need-mul-area-13
-mul-area-13 c = search needs
+mul-node-words-13 : tie.Need-mul-node-words-13
+mul-node-words-13 c = search needs
 
-slice-write-area-13 : tie.Need-slice-write-area-13
-slice-write-area-13 c = simp length-set (omega arith)
+slice-write-node-words-13 : tie.Need-slice-write-node-words-13
+slice-write-node-words-13 c = simp length-set (omega arith)
 
-add-area-13 : tie.Need-add-area-13
-add-area-13 c = search needs
+add-node-words-13 : tie.Need-add-node-words-13
+add-node-words-13 c = search needs
 
-mul-area-14 : tie.Need-mul-area-14
-mul-area-14 c = search needs
+mul-node-words-14 : tie.Need-mul-node-words-14
+mul-node-words-14 c = search needs
 
-slice-write-area-14 : tie.Need-slice-write-area-14
-slice-write-area-14 c = simp length-set (omega arith)
+slice-write-node-words-14 : tie.Need-slice-write-node-words-14
+slice-write-node-words-14 c = simp length-set (omega arith)
 
-add-area-14 : tie.Need-add-area-14
-add-area-14 c = search needs
+add-node-words-14 : tie.Need-add-node-words-14
+add-node-words-14 c = search needs
 
-mul-area-15 : tie.Need-mul-area-15
-mul-area-15 c = search needs
+mul-node-words-15 : tie.Need-mul-node-words-15
+mul-node-words-15 c = search needs
 
-slice-write-area-15 : tie.Need-slice-write-area-15
-slice-write-area-15 c = simp length-set (omega arith)
+slice-write-node-words-15 : tie.Need-slice-write-node-words-15
+slice-write-node-words-15 c = simp length-set (omega arith)
 
-add-area-15 : tie.Need-add-area-15
-add-area-15 c = search needs
+add-node-words-15 : tie.Need-add-node-words-15
+add-node-words-15 c = search needs
 
-mul-area-16 : tie.Need-mul-area-16
-mul-area-16 c = search needs
+mul-node-words-16 : tie.Need-mul-node-words-16
+mul-node-words-16 c = search needs
 
-slice-write-area-16 : tie.Need-slice-write-area-16
-slice-write-area-16 c = simp length-set (omega arith)
+slice-write-node-words-16 : tie.Need-slice-write-node-words-16
+slice-write-node-words-16 c = simp length-set (omega arith)
 
-cast-area-3 : tie.Need-cast-area-3
-cast-area-3 c = search needs
+cast-node-words-3 : tie.Need-cast-node-words-3
+cast-node-words-3 c = search needs
 
-mul-area-17 : tie.Need-mul-area-17
-mul-area-17 c = search needs
+mul-node-words-17 : tie.Need-mul-node-words-17
+mul-node-words-17 c = search needs
 
-slice-write-area-17 : tie.Need-slice-write-area-17
-slice-write-area-17 c = simp length-set (omega arith)
+slice-write-node-words-17 : tie.Need-slice-write-node-words-17
+slice-write-node-words-17 c = simp length-set (omega arith)
 
 same-length : tie.Need-same-length
 same-length c = simp length-set
@@ -178,57 +178,57 @@ add-node-spec =
     tie.close
     (tie.spec
     mul-at
-    cast-area
-    mul-area
-    slice-write-area
-    cast-area-2
-    add-area
-    mul-area-2
-    slice-write-area-2
-    add-area-2
-    mul-area-3
-    slice-write-area-3
-    add-area-3
-    mul-area-4
-    slice-write-area-4
-    add-area-4
-    mul-area-5
-    slice-write-area-5
-    add-area-5
-    mul-area-6
-    slice-write-area-6
-    add-area-6
-    mul-area-7
-    slice-write-area-7
-    add-area-7
-    mul-area-8
-    slice-write-area-8
-    add-area-8
-    mul-area-9
-    slice-write-area-9
-    add-area-9
-    mul-area-10
-    slice-write-area-10
-    add-area-10
-    mul-area-11
-    slice-write-area-11
-    add-area-11
-    mul-area-12
-    slice-write-area-12
-    add-area-12
-    mul-area-13
-    slice-write-area-13
-    add-area-13
-    mul-area-14
-    slice-write-area-14
-    add-area-14
-    mul-area-15
-    slice-write-area-15
-    add-area-15
-    mul-area-16
-    slice-write-area-16
-    cast-area-3
-    mul-area-17
-    slice-write-area-17
+    cast-node-words
+    mul-node-words
+    slice-write-node-words
+    cast-node-words-2
+    add-node-words
+    mul-node-words-2
+    slice-write-node-words-2
+    add-node-words-2
+    mul-node-words-3
+    slice-write-node-words-3
+    add-node-words-3
+    mul-node-words-4
+    slice-write-node-words-4
+    add-node-words-4
+    mul-node-words-5
+    slice-write-node-words-5
+    add-node-words-5
+    mul-node-words-6
+    slice-write-node-words-6
+    add-node-words-6
+    mul-node-words-7
+    slice-write-node-words-7
+    add-node-words-7
+    mul-node-words-8
+    slice-write-node-words-8
+    add-node-words-8
+    mul-node-words-9
+    slice-write-node-words-9
+    add-node-words-9
+    mul-node-words-10
+    slice-write-node-words-10
+    add-node-words-10
+    mul-node-words-11
+    slice-write-node-words-11
+    add-node-words-11
+    mul-node-words-12
+    slice-write-node-words-12
+    add-node-words-12
+    mul-node-words-13
+    slice-write-node-words-13
+    add-node-words-13
+    mul-node-words-14
+    slice-write-node-words-14
+    add-node-words-14
+    mul-node-words-15
+    slice-write-node-words-15
+    add-node-words-15
+    mul-node-words-16
+    slice-write-node-words-16
+    cast-node-words-3
+    mul-node-words-17
+    slice-write-node-words-17
     same-length
     returns)

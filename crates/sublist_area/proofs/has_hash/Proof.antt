@@ -17,7 +17,7 @@ cast-if1 : tie.Need-cast-if1
 cast-if1 c = search needs
 
 returns : tie.Need-returns
-returns c = let g = c .before .before .args in hash-low (g .area .now) (g .at) (g .hash) (c .if1 .taken)
+returns c = let g = c .before .before .args in hash-low (g .node-words .now) (g .at) (g .hash) (c .if1 .taken)
 
 mul-result : tie.Need-mul-result
 mul-result c = search needs
@@ -35,7 +35,7 @@ cast-result : tie.Need-cast-result
 cast-result c = search needs
 
 returns-2 : tie.Need-returns-2
-returns-2 c = let g = c .before .before .before .args in hash-high (g .area .now) (g .at) (g .hash) (c .before .if1 .left)
+returns-2 c = let g = c .before .before .before .args in hash-high (g .node-words .now) (g .at) (g .hash) (c .before .if1 .left)
 
 pub has-hash-spec : {M : Type 1} → statement M
 has-hash-spec =

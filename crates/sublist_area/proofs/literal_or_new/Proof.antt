@@ -12,7 +12,7 @@ grow-requires : tie.Need-grow-requires
 grow-requires c κs =
     let k = c .before in
     let g = k .before .before .before .args in
-    λ link e. missing-literal (g .area .now) (g .count) (g .node) (g .hash) link (sym (k .literal-child .ensures) ∙ e)
+    λ link e. missing-literal (g .node-words .now) (g .count) (g .node) (g .hash) link (sym (k .literal-child .ensures) ∙ e)
 
 same-length : tie.Need-same-length
 same-length c = search needs

@@ -11,10 +11,10 @@ use Rattle.sublist_area.proofs.plant.Statement.{statement}
 use Rattle.sublist_area.proofs.plant.Tie as tie
 
 abbrev Inv-loop : tie.InvT-loop
-Inv-loop area₀ i₀ area i = (sets area i (replicate (16 - i) 0) ≡ planted area₀) × (length area ≡ length area₀) × (i ≤ 16) × (16 ≤ length area₀)
+Inv-loop node-words₀ i₀ node-words i = (sets node-words i (replicate (16 - i) 0) ≡ planted node-words₀) × (length node-words ≡ length node-words₀) × (i ≤ 16) × (16 ≤ length node-words₀)
 
 abbrev μ-loop : tie.MeasureT-loop
-μ-loop area₀ i₀ area i = 16 - i
+μ-loop node-words₀ i₀ node-words i = 16 - i
 
 returns : tie.Need-returns Inv-loop μ-loop
 unfolding rooted
@@ -24,11 +24,11 @@ loop-holds : tie.Need-loop-holds Inv-loop μ-loop
 unfolding planted
 loop-holds c = (refl, refl, search needs, search needs)
 
-mul-area : tie.Need-mul-area Inv-loop μ-loop
-mul-area c = search needs
+mul-node-words : tie.Need-mul-node-words Inv-loop μ-loop
+mul-node-words c = search needs
 
-slice-write-area : tie.Need-slice-write-area Inv-loop μ-loop
-slice-write-area c = search needs
+slice-write-node-words : tie.Need-slice-write-node-words Inv-loop μ-loop
+slice-write-node-words c = search needs
 
 add-i : tie.Need-add-i Inv-loop μ-loop
 add-i c = search needs
@@ -39,7 +39,7 @@ loop-less c = search needs
 loop-again : tie.Need-loop-again Inv-loop μ-loop
 loop-again c =
     let l = c .before .loop in
-    (clear-turn (l .area) _ (l .i) (l .inv .0) (c .loop-test .taken), simp length-set (l .inv .1), search needs, search needs)
+    (clear-turn (l .node-words) _ (l .i) (l .inv .0) (c .loop-test .taken), simp length-set (l .inv .1), search needs, search needs)
 
 same-length : tie.Need-same-length Inv-loop μ-loop
 same-length c = c .before .loop .inv .1
@@ -48,7 +48,7 @@ returns-2 : tie.Need-returns-2 Inv-loop μ-loop
 unfolding rooted
 returns-2 c =
     let l = c .before .loop in
-    rw (le-ltb _ _ (c .before .before .if1 .left), clear-end (l .area) _ (l .i) (l .inv .0) (c .loop-test .left))
+    rw (le-ltb _ _ (c .before .before .if1 .left), clear-end (l .node-words) _ (l .i) (l .inv .0) (c .loop-test .left))
 
 pub plant-spec : {M : Type 1} → statement M
 plant-spec =
@@ -58,8 +58,8 @@ plant-spec =
     μ-loop
     returns
     loop-holds
-    mul-area
-    slice-write-area
+    mul-node-words
+    slice-write-node-words
     add-i
     loop-less
     loop-again

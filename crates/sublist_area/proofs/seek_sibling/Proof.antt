@@ -10,11 +10,11 @@ use Rattle.sublist_area.proofs.seek_sibling.Statement.{statement}
 use Rattle.sublist_area.proofs.seek_sibling.Tie as tie
 
 abbrev Inv-loop : tie.InvT-loop
-Inv-loop area count start hash link₀ rest₀ left₀ id₀ link rest left id =
-    (seek (byHash area hash) area count hash count start ≡ seek (byHash area hash) area count rest left link) × (id ≡ getD area link 0) × (link < count * 16) × (left ≤ count)
+Inv-loop node-words count start hash link₀ rest₀ left₀ id₀ link rest left id =
+    (seek (byHash node-words hash) node-words count hash count start ≡ seek (byHash node-words hash) node-words count rest left link) × (id ≡ getD node-words link 0) × (link < count * 16) × (left ≤ count)
 
 abbrev μ-loop : tie.MeasureT-loop
-μ-loop area count start hash link₀ rest₀ left₀ id₀ link rest left id = left
+μ-loop node-words count start hash link₀ rest₀ left₀ id₀ link rest left id = left
 
 mul-id : tie.Need-mul-id Inv-loop μ-loop
 mul-id c = search needs
