@@ -50,10 +50,19 @@ push limit (level next list) (Missing link) = level next list
 push limit (level next list) Damaged = broken failure.Damaged
 push limit (broken why) c = broken why
 
+-- children join it in turn
+abbrev pub pushes : ℕ → Level → List Child → Level
+pushes limit s [] = s
+pushes limit s (c ∷ cs) = pushes limit (push limit s c) cs
+
+-- what replaces node i on a token's hash h: its literal child, then its `*` child
+abbrev pub children : List ℕ → ℕ → ℕ → ℕ → List Child
+children a n h i = literalChild a n i h ∷ starChild a n i ∷ []
+
 module _ (limit : ℕ) (a : List ℕ) (n m : ℕ) (ts : List ℕ) where
-  -- one node of the frontier and a token's hash h: its `>` targets, then its literal child, then its `*` child
+  -- one node of the frontier and a token's hash h: its `>` targets, then its children
   unfoldable pub visit : ℕ → Level → ℕ → Level
-  visit h s i = push limit (push limit (collect a m ts 6 i s) (literalChild a n i h)) (starChild a n i)
+  visit h s i = pushes limit (collect a m ts 6 i s) (children a n h i)
 
   unfoldable pub visits : ℕ → Level → List ℕ → Level
   visits h s [] = s
@@ -90,8 +99,11 @@ module _ (limit : ℕ) (a : List ℕ) (n m : ℕ) (ts : List ℕ) where
 
 -- the same for tokens of any kind: `look i k` is what the lookup by k at node i says
 module _ {K : Type 0} (look : ℕ → Key K → Child) (limit : ℕ) (a : List ℕ) (n m : ℕ) (ts : List ℕ) where
+  abbrev pub childrenBy : K → ℕ → List Child
+  childrenBy h i = look i (lit h) ∷ look i star ∷ []
+
   unfoldable pub visitBy : K → Level → ℕ → Level
-  visitBy h s i = push limit (push limit (collect a m ts 6 i s) (look i (lit h))) (look i star)
+  visitBy h s i = pushes limit (collect a m ts 6 i s) (childrenBy h i)
 
   unfoldable pub visitsBy : K → Level → List ℕ → Level
   visitsBy h s [] = s
