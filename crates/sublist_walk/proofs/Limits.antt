@@ -18,7 +18,7 @@ use Rattle.sublist_area.specs.Words.{word}
 use Rattle.sublist_tree.specs.Lists.{All}
 use Rattle.sublist_tree.specs.Tree.{Line, walk, peak}
 use Rattle.sublist_walk.specs.declared.Failure.the-variants as failure
-use Rattle.sublist_walk.specs.Walk.{part, among, Level, level, broken, Walk, at, stuck, Walked, found, failed, collect, push, pushes, children, visit, visits, arrived, onToken, onTokens, exact, listed, ended, walkOver}
+use Rattle.sublist_walk.specs.Walk.{part, among, Level, level, broken, Walk, at, stuck, root, Walked, found, failed, collect, push, pushes, children, visit, visits, arrived, onToken, onTokens, exact, listed, ended, walkOver}
 use Rattle.sublist_walk.specs.Matching.{countsFit, outcome, written, ifSubject, matchTable}
 use Rattle.sublist_walk.specs.Holds.{Narrow, Holds}
 use Rattle.sublist_walk.proofs.Parts.{among-snoc}
@@ -145,7 +145,7 @@ module _ (k : ℕ) where
     -- so is the peak
     pub peak-fits : 0 < k → (hs : List ℕ) → FitsEnd k (walkOver k a n m ts hs)
     unfolding walkOver
-    peak-fits some hs = ended-fits (onTokens k a n m ts (at (0 ∷ []) [] 1) hs) (tokens-fit (at (0 ∷ []) [] 1) hs (omega arith))
+    peak-fits some hs = ended-fits (onTokens k a n m ts root hs) (tokens-fit root hs (omega arith))
 
     -- where the tree's walk has more nodes in a frontier than the limit, the area's walk would pass it
     pub walk-passes : (ls : List (Line ℕ)) → Holds a n m ts ls → (hs : List ℕ) → All Narrow hs → 0 < k → k < peak eqb hs (ls ∷ [])
@@ -177,4 +177,4 @@ pub match-passes : (a : List ℕ) (n m : ℕ) (ts : List ℕ) (ls : List (Line �
     → 1024 < peak eqb (map fnv (tokens subject)) (ls ∷ []) → matchTable n m a ts subject out ≡ ifSubject (grammar false subject) out (outcome (answer 19 []) out)
 unfolding matchTable
 match-passes a n m ts ls H subject out passes =
-    rw (counts-hold a n m ts ls H, walk-passes 1024 a n m ts ls H (map fnv (tokens subject)) (hashes-fit (tokens subject)) (omega arith) passes)
+    rw (counts-hold a n m ts ls H, walk-passes 1024 a n m ts ls H (map fnv (tokens subject)) (hashes-fit (tokens subject)) (omega arith) (omega (arith, passes)))

@@ -11,7 +11,7 @@ use Rattle.subject.specs.Choice.{pick}
 use Rattle.sublist_area.specs.declared.Child.{Child}
 use Rattle.sublist_area.specs.declared.Child.the-variants.{Node, Missing, Damaged}
 use Rattle.sublist_walk.specs.declared.Failure.the-variants as failure
-use Rattle.sublist_walk.specs.Walk.{among, Level, level, broken, Walk, at, stuck, Walked, found, failed, collect, push, pushes, children, visit, visits, arrived, onToken, onTokens, exact, listed, ended, walkOver}
+use Rattle.sublist_walk.specs.Walk.{among, Level, level, broken, Walk, at, stuck, root, Walked, found, failed, collect, push, pushes, children, visit, visits, arrived, onToken, onTokens, exact, listed, ended, walkOver}
 use Rattle.sublist_walk.proofs.Visits.{exact-any}
 
 -- t is s, unless s passed its limit
@@ -105,10 +105,10 @@ module _ (k l : ℕ) (small : k ≤ l) where
     pub narrow : (hs : List ℕ) → (walkOver k a n m ts hs ≡ failed failure.Wide → ⊥) → walkOver l a n m ts hs ≡ walkOver k a n m ts hs
     unfolding walkOver
     narrow hs never =
-        go (ended k a n m ts (onTokens k a n m ts (at (0 ∷ []) [] 1) hs)) never
-        (ended-kept (onTokens k a n m ts (at (0 ∷ []) [] 1) hs) (onTokens l a n m ts (at (0 ∷ []) [] 1) hs) (tokens-kept (at (0 ∷ []) [] 1) (at (0 ∷ []) [] 1) hs refl))
+        go (ended k a n m ts (onTokens k a n m ts root hs)) never
+        (ended-kept (onTokens k a n m ts root hs) (onTokens l a n m ts root hs) (tokens-kept root root hs refl))
       where
-        go : (w : Walked) → (w ≡ failed failure.Wide → ⊥) → KeptEnd w (ended l a n m ts (onTokens l a n m ts (at (0 ∷ []) [] 1) hs)) → ended l a n m ts (onTokens l a n m ts (at (0 ∷ []) [] 1) hs) ≡ w
+        go : (w : Walked) → (w ≡ failed failure.Wide → ⊥) → KeptEnd w (ended l a n m ts (onTokens l a n m ts root hs)) → ended l a n m ts (onTokens l a n m ts root hs) ≡ w
         go (found list peak) f e = e
         go (failed failure.Wide) f e = absurd (f refl)
         go (failed failure.Damaged) f e = e

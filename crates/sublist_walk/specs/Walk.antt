@@ -30,6 +30,10 @@ pub data Walk : Type 0 where
   at : List ℕ → List ℕ → ℕ → Walk
   stuck : Failure → Walk
 
+-- where a walk starts: the root alone in the frontier
+abbrev pub root : Walk
+root = at (0 ∷ []) [] 1
+
 -- what a walk ends with: the list and the peak
 pub data Walked : Type 0 where
   found : List ℕ → ℕ → Walked
@@ -93,9 +97,8 @@ module _ (limit : ℕ) (a : List ℕ) (n m : ℕ) (ts : List ℕ) where
   ended (at front list peak) = listed peak (exact (level [] list) front)
   ended (stuck why) = failed why
 
-  -- from the root alone
   unfoldable pub walkOver : List ℕ → Walked
-  walkOver hs = ended (onTokens (at (0 ∷ []) [] 1) hs)
+  walkOver hs = ended (onTokens root hs)
 
 -- the same for tokens of any kind: `look i k` is what the lookup by k at node i says
 module _ {K : Type 0} (look : ℕ → Key K → Child) (limit : ℕ) (a : List ℕ) (n m : ℕ) (ts : List ℕ) where
@@ -118,4 +121,4 @@ module _ {K : Type 0} (look : ℕ → Key K → Child) (limit : ℕ) (a : List �
   onTokensBy w (h ∷ hs) = onTokensBy (onTokenBy w h) hs
 
   unfoldable pub walkBy : List K → Walked
-  walkBy hs = ended limit a n m ts (onTokensBy (at (0 ∷ []) [] 1) hs)
+  walkBy hs = ended limit a n m ts (onTokensBy root hs)
