@@ -14,7 +14,7 @@ use Rattle.sublist_trie.specs.Trie.{leftAt}
 use Rattle.sublist_area.specs.declared.Child.{Child}
 use Rattle.sublist_area.specs.declared.Child.the-variants.{Node, Missing, Damaged}
 use Rattle.sublist_area.specs.Words.{word, childOf}
-use Rattle.sublist_walk.specs.Walk.{part, among, Level, level, Walk, at, stuck, Walked, found, collect, push, visit, visits, arrived, onToken, onTokens, exact, listed, ended, walkOver, visitBy, visitsBy, onTokenBy, onTokensBy, walkBy}
+use Rattle.sublist_walk.specs.Walk.{part, among, Level, level, Walk, at, stuck, root, Walked, found, collect, push, visit, visits, arrived, onToken, onTokens, exact, listed, ended, walkOver, visitBy, visitsBy, onTokenBy, onTokensBy, walkBy}
 use Rattle.sublist_walk.specs.Holds.{Narrow, Leads, Says, HoldsBy, Holds}
 
 module _ {K : Type 0} (eq : K → K → Bool) where
@@ -334,7 +334,7 @@ module _ (limit : ℕ) (a : List ℕ) (n m : ℕ) (ts : List ℕ) where
 
   pub same-walk : (hs : List ℕ) → walkBy (childOf a n) limit a n m ts hs ≡ walkOver limit a n m ts hs
   unfolding walkBy walkOver
-  same-walk hs = ap (ended limit a n m ts) (same-tokens hs (at (0 ∷ []) [] 1))
+  same-walk hs = ap (ended limit a n m ts) (same-tokens hs root)
 
   pub walk-holds : (ls : List (Line ℕ)) → Holds a n m ts ls → (hs : List ℕ) → All Narrow hs → peak eqb hs (ls ∷ []) ≤ limit
       → walkOver limit a n m ts hs ≡ found (walk eqb hs (ls ∷ [])) (peak eqb hs (ls ∷ []))

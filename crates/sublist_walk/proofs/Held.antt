@@ -40,4 +40,4 @@ module _ (a : List ℕ) (n m : ℕ) (ts : List ℕ) (ls : List (Line ℕ)) (H : 
       → matchTable n m a ts subject out
       ≡ ifSubject (grammar false subject) out (written (found (walk eqb (map fnv (tokens subject)) (ls ∷ [])) (peak eqb (map fnv (tokens subject)) (ls ∷ []))) out)
   unfolding matchTable
-  match-holds subject out fits = rw (counts-hold, walk-holds 1024 a n m ts ls H (map fnv (tokens subject)) (hashes-fit (tokens subject)) fits) refl
+  match-holds subject out fits = rw (counts-hold, walk-holds 1024 a n m ts ls H (map fnv (tokens subject)) (hashes-fit (tokens subject)) (omega (arith, fits))) refl

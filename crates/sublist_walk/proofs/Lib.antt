@@ -10,3 +10,4 @@ pub mod Writing
 pub mod Frontiers
 pub mod Held
 pub mod Outputs
+pub mod Limits

@@ -10,9 +10,8 @@ use borrow.Author.Tests.{lt-ltb, ltb-true}
 use Rattle.subject.specs.Choice.{pick}
 use Rattle.sublist_area.specs.declared.Child.{Child}
 use Rattle.sublist_area.specs.declared.Child.the-variants.{Node, Missing, Damaged}
-use Rattle.sublist_area.specs.Words.{literalChild, starChild}
 use Rattle.sublist_walk.specs.declared.Failure.the-variants as failure
-use Rattle.sublist_walk.specs.Walk.{among, Level, level, broken, Walk, at, stuck, Walked, found, failed, collect, push, visit, visits, arrived, onToken, onTokens, exact, listed, ended, walkOver}
+use Rattle.sublist_walk.specs.Walk.{among, Level, level, broken, Walk, at, stuck, root, Walked, found, failed, collect, push, pushes, children, visit, visits, arrived, onToken, onTokens, exact, listed, ended, walkOver}
 use Rattle.sublist_walk.proofs.Visits.{exact-any}
 
 -- t is s, unless s passed its limit
@@ -58,12 +57,14 @@ module _ (k l : ℕ) (small : k ≤ l) where
   push-kept (broken failure.Wide) t c e = tt
   push-kept (broken failure.Damaged) t c e = rw e refl
 
+  pushes-kept : (s t : Level) (cs : List Child) → Kept s t → Kept (pushes k s cs) (pushes l t cs)
+  pushes-kept s t [] e = e
+  pushes-kept s t (c ∷ cs) e = pushes-kept (push k s c) (push l t c) cs (push-kept s t c e)
+
   module _ (a : List ℕ) (n m : ℕ) (ts : List ℕ) where
     visit-kept : (h : ℕ) (s t : Level) (i : ℕ) → Kept s t → Kept (visit k a n m ts h s i) (visit l a n m ts h t i)
     unfolding visit
-    visit-kept h s t i e =
-        push-kept (push k (collect a m ts 6 i s) (literalChild a n i h)) (push l (collect a m ts 6 i t) (literalChild a n i h)) (starChild a n i)
-        (push-kept (collect a m ts 6 i s) (collect a m ts 6 i t) (literalChild a n i h) (collect-kept a m ts 6 i s t e))
+    visit-kept h s t i e = pushes-kept (collect a m ts 6 i s) (collect a m ts 6 i t) (children a n h i) (collect-kept a m ts 6 i s t e)
 
     visits-kept : (h : ℕ) (s t : Level) (is : List ℕ) → Kept s t → Kept (visits k a n m ts h s is) (visits l a n m ts h t is)
     unfolding visits
@@ -104,10 +105,10 @@ module _ (k l : ℕ) (small : k ≤ l) where
     pub narrow : (hs : List ℕ) → (walkOver k a n m ts hs ≡ failed failure.Wide → ⊥) → walkOver l a n m ts hs ≡ walkOver k a n m ts hs
     unfolding walkOver
     narrow hs never =
-        go (ended k a n m ts (onTokens k a n m ts (at (0 ∷ []) [] 1) hs)) never
-        (ended-kept (onTokens k a n m ts (at (0 ∷ []) [] 1) hs) (onTokens l a n m ts (at (0 ∷ []) [] 1) hs) (tokens-kept (at (0 ∷ []) [] 1) (at (0 ∷ []) [] 1) hs refl))
+        go (ended k a n m ts (onTokens k a n m ts root hs)) never
+        (ended-kept (onTokens k a n m ts root hs) (onTokens l a n m ts root hs) (tokens-kept root root hs refl))
       where
-        go : (w : Walked) → (w ≡ failed failure.Wide → ⊥) → KeptEnd w (ended l a n m ts (onTokens l a n m ts (at (0 ∷ []) [] 1) hs)) → ended l a n m ts (onTokens l a n m ts (at (0 ∷ []) [] 1) hs) ≡ w
+        go : (w : Walked) → (w ≡ failed failure.Wide → ⊥) → KeptEnd w (ended l a n m ts (onTokens l a n m ts root hs)) → ended l a n m ts (onTokens l a n m ts root hs) ≡ w
         go (found list peak) f e = e
         go (failed failure.Wide) f e = absurd (f refl)
         go (failed failure.Damaged) f e = e

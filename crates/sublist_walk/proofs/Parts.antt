@@ -21,7 +21,7 @@ or-false : (b : Bool) → or b false ≡ b
 or-false true = refl
 or-false false = refl
 
-among-snoc : (j : ℕ) (xs : List ℕ) (x : ℕ) → among j (xs ++ (x ∷ [])) ≡ or (among j xs) (eqb j x)
+pub among-snoc : (j : ℕ) (xs : List ℕ) (x : ℕ) → among j (xs ++ (x ∷ [])) ≡ or (among j xs) (eqb j x)
 among-snoc j [] x = or-false (eqb j x)
 among-snoc j (y ∷ xs) x = go (eqb j y) (among-snoc j xs x)
   where

@@ -11,10 +11,10 @@ use lib.Seq.{length-take-le, take-suc, take-take, getD-take, split-at}
 use Rattle.subject.specs.Choice.{pick}
 use Rattle.sublist_area.specs.declared.Child.{Child}
 use Rattle.sublist_area.specs.declared.Child.the-variants.{Node, Missing, Damaged}
-use Rattle.sublist_area.specs.Words.{word, literalChild, starChild}
+use Rattle.sublist_area.specs.Words.{word}
 use Rattle.sublist_walk.specs.declared.Failure.{Failure}
 use Rattle.sublist_walk.specs.declared.Failure.the-variants as failure
-use Rattle.sublist_walk.specs.Walk.{part, among, Level, level, broken, collect, push, visit, visits, exact}
+use Rattle.sublist_walk.specs.Walk.{part, among, Level, level, broken, collect, push, pushes, children, visit, visits, exact}
 use Rattle.sublist_walk.specs.Told.{Listed}
 use Rattle.sublist_walk.proofs.Parts.{sets-append}
 
@@ -55,6 +55,10 @@ push-behind k l (level next list) (Node j) =
 push-behind k l (level next list) (Missing link) = refl
 push-behind k l (level next list) Damaged = refl
 push-behind k l (broken why) c = refl
+
+pushes-behind : (k : ℕ) (l : List ℕ) (s : Level) (cs : List Child) → pushes k (behind l s) cs ≡ behind l (pushes k s cs)
+pushes-behind k l s [] = refl
+pushes-behind k l s (c ∷ cs) = ap (λ x. pushes k x cs) (push-behind k l s c) ∙ pushes-behind k l (push k s c) cs
 
 -- what a node's words say does not hang on the level so far
 module _ (a : List ℕ) (m : ℕ) (ts : List ℕ) (f i : ℕ) where
@@ -104,14 +108,13 @@ module _ (k : ℕ) (a : List ℕ) (n m : ℕ) (ts : List ℕ) (h : ℕ) where
     unfolding visit push
     visit-outside e = rw (outside-too a m ts 6 i next [] e)
 
-    module _ (made : Level) (p : made ≡ push k (push k (level next []) (literalChild a n i h)) (starChild a n i)) (at size : ℕ) (out after : List ℕ)
+    module _ (made : Level) (p : made ≡ pushes k (level next []) (children a n h i)) (at size : ℕ) (out after : List ℕ)
         (w : Listed (collect a m ts 6 i (level [] [])) [] at size 1 out after) where
       visit-behind : visit k a n m ts h (level next []) i ≡ behind (w .list) made
       unfolding visit behind
       visit-behind =
           rw (collect-new a m ts 6 i next [] (w .list) (w .is), p)
-          (rw append-nil at (ap (λ s. push k s (starChild a n i)) (push-behind k (w .list) (level next []) (literalChild a n i h))
-          ∙ push-behind k (w .list) (push k (level next []) (literalChild a n i h)) (starChild a n i)))
+          (rw append-nil at (pushes-behind k (w .list) (level next []) (children a n h i)))
 
       pub visit-failed : (why : Failure) → made ≡ broken why → visit k a n m ts h (level next []) i ≡ broken why
       unfolding behind
@@ -132,9 +135,7 @@ module _ (k : ℕ) (a : List ℕ) (n m : ℕ) (ts : List ℕ) (h : ℕ) where
     visit-through : visit k a n m ts h (level next list) i ≡ behind list (visit k a n m ts h (level next []) i)
     unfolding visit
     visit-through =
-        rw (collect-behind a m ts 6 i next list)
-        (ap (λ s. push k s (starChild a n i)) (push-behind k list (collect a m ts 6 i (level next [])) (literalChild a n i h))
-        ∙ push-behind k list (push k (collect a m ts 6 i (level next [])) (literalChild a n i h)) (starChild a n i))
+        rw (collect-behind a m ts 6 i next list) (pushes-behind k list (collect a m ts 6 i (level next [])) (children a n h i))
 
   visit-through-all : (l : List ℕ) (s : Level) (i : ℕ) → visit k a n m ts h (behind l s) i ≡ behind l (visit k a n m ts h s i)
   unfolding visit collect push behind

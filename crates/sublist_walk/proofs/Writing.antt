@@ -94,25 +94,25 @@ module _ (w : Walked) (r : declared.Walked) (before list : List ℕ) (v : Ends r
       pub try-listed : size ≤ length out → (after : List ℕ) → Wrote w2 out after → Tries (try.Answered (match.Listed size peak)) out after w
       try-listed h after u = (not-wide, rw (finds .is) (found-whole (finds .list) peak size out after (finds .sized) h (u (finds .list) peak (q ∙ finds .is))))
 
--- narrow frontiers first, then the widest
-module _ (n m : ℕ) (a ts subject out : List ℕ) (t : Tried) (now : List ℕ) (v : Tries t out now (walkOf 32 n m a ts subject)) where
-  pub narrow-answers : (r : TableMatch) → t ≡ try.Answered r → outcome (matchAnswer r) now ≡ written (walkOf 1024 n m a ts subject) out
+-- narrow frontiers first, then the widest, of k nodes
+module _ (k : ℕ) (small : 32 ≤ k) (n m : ℕ) (a ts subject out : List ℕ) (t : Tried) (now : List ℕ) (v : Tries t out now (walkOf 32 n m a ts subject)) where
+  pub narrow-answers : (r : TableMatch) → t ≡ try.Answered r → outcome (matchAnswer r) now ≡ written (walkOf k n m a ts subject) out
   narrow-answers r e =
       let u : Tries (try.Answered r) out now (walkOf 32 n m a ts subject) = (rw e at v) in
-      u .1 ∙ ap (λ w. written w out) (sym (narrow 32 1024 (omega arith) a n m ts (map fnv (tokens subject)) (u .0)))
+      u .1 ∙ ap (λ w. written w out) (sym (narrow 32 k small a n m ts (map fnv (tokens subject)) (u .0)))
 
-  module _ (e : t ≡ try.Wide) (t2 : Tried) (after : List ℕ) (v2 : Tries t2 now after (walkOf 1024 n m a ts subject)) where
+  module _ (e : t ≡ try.Wide) (t2 : Tried) (after : List ℕ) (v2 : Tries t2 now after (walkOf k n m a ts subject)) where
     still : now ≡ out
     still = let u : Tries try.Wide out now (walkOf 32 n m a ts subject) = (rw e at v) in u .1
 
-    pub wide-answers : (r : TableMatch) → t2 ≡ try.Answered r → outcome (matchAnswer r) after ≡ written (walkOf 1024 n m a ts subject) out
+    pub wide-answers : (r : TableMatch) → t2 ≡ try.Answered r → outcome (matchAnswer r) after ≡ written (walkOf k n m a ts subject) out
     wide-answers r e2 =
-        let u : Tries (try.Answered r) now after (walkOf 1024 n m a ts subject) = (rw e2 at v2) in
-        u .1 ∙ ap (written (walkOf 1024 n m a ts subject)) still
+        let u : Tries (try.Answered r) now after (walkOf k n m a ts subject) = (rw e2 at v2) in
+        u .1 ∙ ap (written (walkOf k n m a ts subject)) still
 
-    pub wide-19 : t2 ≡ try.Wide → outcome (answer 19 []) after ≡ written (walkOf 1024 n m a ts subject) out
+    pub wide-19 : t2 ≡ try.Wide → outcome (answer 19 []) after ≡ written (walkOf k n m a ts subject) out
     wide-19 e2 =
-        let u : Tries try.Wide now after (walkOf 1024 n m a ts subject) = (rw e2 at v2) in
+        let u : Tries try.Wide now after (walkOf k n m a ts subject) = (rw e2 at v2) in
         rw (u .0, u .1, still)
 
 -- the counts

@@ -44,13 +44,18 @@ abbrev pub ifSubject : Answer → List ℕ → Outcome → Outcome
 ifSubject (answer zero values) out after = after
 ifSubject (answer (suc k) values) out after = outcome (answer (suc k) values) out
 
-unfoldable pub matchTable : ℕ → ℕ → List ℕ → List ℕ → List ℕ → List ℕ → Outcome
-matchTable n m a ts subject out =
-    ifSubject (grammar false subject) out
-    (pick (countsFit n m a ts) (written (walkOver 1024 a n m ts (map fnv (tokens subject))) out) (outcome (answer 19 []) out))
+-- 19 on the counts, 19 in the walk, then 21
+abbrev pub matchAccepted : ℕ → ℕ → List ℕ → List ℕ → List ℕ → List ℕ → Outcome
+matchAccepted n m a ts subject out =
+    pick (countsFit n m a ts)
+    (written (walkOver 1024 a n m ts (map fnv (tokens subject))) out)
+    (outcome (answer 19 []) out)
 
--- the match of a subject that was parsed before. 1 is asked again, of any text that is lent
+-- 1 to 9 come first
+unfoldable pub matchTable : ℕ → ℕ → List ℕ → List ℕ → List ℕ → List ℕ → Outcome
+matchTable n m a ts subject out = ifSubject (grammar false subject) out (matchAccepted n m a ts subject out)
+
+-- the match of a subject that was parsed before; 1 is asked again, of any text that is lent
 unfoldable pub matchParsed : ℕ → ℕ → List ℕ → List ℕ → List ℕ → List ℕ → Outcome
 matchParsed n m a ts subject out =
-    pick (ltb 4096 (length subject)) (outcome (answer 1 []) out)
-    (pick (countsFit n m a ts) (written (walkOver 1024 a n m ts (map fnv (tokens subject))) out) (outcome (answer 19 []) out))
+    pick (ltb 4096 (length subject)) (outcome (answer 1 []) out) (matchAccepted n m a ts subject out)

@@ -30,6 +30,10 @@ pub data Walk : Type 0 where
   at : List ℕ → List ℕ → ℕ → Walk
   stuck : Failure → Walk
 
+-- where a walk starts: the root alone in the frontier
+abbrev pub root : Walk
+root = at (0 ∷ []) [] 1
+
 -- what a walk ends with: the list and the peak
 pub data Walked : Type 0 where
   found : List ℕ → ℕ → Walked
@@ -50,10 +54,19 @@ push limit (level next list) (Missing link) = level next list
 push limit (level next list) Damaged = broken failure.Damaged
 push limit (broken why) c = broken why
 
+-- children join it in turn
+abbrev pub pushes : ℕ → Level → List Child → Level
+pushes limit s [] = s
+pushes limit s (c ∷ cs) = pushes limit (push limit s c) cs
+
+-- what replaces node i on a token's hash h: its literal child, then its `*` child
+abbrev pub children : List ℕ → ℕ → ℕ → ℕ → List Child
+children a n h i = literalChild a n i h ∷ starChild a n i ∷ []
+
 module _ (limit : ℕ) (a : List ℕ) (n m : ℕ) (ts : List ℕ) where
-  -- one node of the frontier and a token's hash h: its `>` targets, then its literal child, then its `*` child
+  -- one node of the frontier and a token's hash h: its `>` targets, then its children
   unfoldable pub visit : ℕ → Level → ℕ → Level
-  visit h s i = push limit (push limit (collect a m ts 6 i s) (literalChild a n i h)) (starChild a n i)
+  visit h s i = pushes limit (collect a m ts 6 i s) (children a n h i)
 
   unfoldable pub visits : ℕ → Level → List ℕ → Level
   visits h s [] = s
@@ -84,14 +97,16 @@ module _ (limit : ℕ) (a : List ℕ) (n m : ℕ) (ts : List ℕ) where
   ended (at front list peak) = listed peak (exact (level [] list) front)
   ended (stuck why) = failed why
 
-  -- from the root alone
   unfoldable pub walkOver : List ℕ → Walked
-  walkOver hs = ended (onTokens (at (0 ∷ []) [] 1) hs)
+  walkOver hs = ended (onTokens root hs)
 
 -- the same for tokens of any kind: `look i k` is what the lookup by k at node i says
 module _ {K : Type 0} (look : ℕ → Key K → Child) (limit : ℕ) (a : List ℕ) (n m : ℕ) (ts : List ℕ) where
+  abbrev pub childrenBy : K → ℕ → List Child
+  childrenBy h i = look i (lit h) ∷ look i star ∷ []
+
   unfoldable pub visitBy : K → Level → ℕ → Level
-  visitBy h s i = push limit (push limit (collect a m ts 6 i s) (look i (lit h))) (look i star)
+  visitBy h s i = pushes limit (collect a m ts 6 i s) (childrenBy h i)
 
   unfoldable pub visitsBy : K → Level → List ℕ → Level
   visitsBy h s [] = s
@@ -106,4 +121,4 @@ module _ {K : Type 0} (look : ℕ → Key K → Child) (limit : ℕ) (a : List �
   onTokensBy w (h ∷ hs) = onTokensBy (onTokenBy w h) hs
 
   unfoldable pub walkBy : List K → Walked
-  walkBy hs = ended limit a n m ts (onTokensBy (at (0 ∷ []) [] 1) hs)
+  walkBy hs = ended limit a n m ts (onTokensBy root hs)

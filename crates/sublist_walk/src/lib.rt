@@ -5,8 +5,8 @@ ghost use Prim.Native.Nat.{_+_, _-_, _/_, _≤_, _<_, _^_, max};
 ghost use lib.ListN.{length, take, getD};
 ghost use lib.Seq.{sets};
 ghost use Rattle.subject.specs.Answers.{answer, parsed, whenAccepted};
-ghost use Rattle.sublist_area.specs.Words.{literalChild, starChild};
-ghost use Rattle.sublist_walk.specs.Walk.{part, among, level, collect, push, visit, visits, exact};
+ghost use Rattle.sublist_walk.specs.Walk.{part, among, level, collect, push, pushes, children};
+ghost use Rattle.sublist_walk.specs.Walk.{visit, visits, exact};
 ghost use Rattle.sublist_walk.specs.Matching.{outcome, matchAnswer, countsFit, written, matchParsed, matchTable};
 ghost use Rattle.sublist_walk.specs.Told.{walkOf, missed, fronted, within, finished, tried, Turn, Lists, Reaches, Ends};
 ghost use Rattle.sublist_walk.specs.Told.{Holding, Wrote, Tries};
@@ -206,9 +206,8 @@ fn push_children(
     requires { ⌜ n ≤ length (now to) ⌝ }
     ensures { λ r. ⌜
         (fronted r (now (to .exit))
-        ≡ push (length (now (to .entry)))
-        (push (length (now (to .entry))) (level (take n (now (to .entry))) []) (literalChild (now («node_words» .entry)) nodes node hash))
-        (starChild (now («node_words» .entry)) nodes node))
+        ≡ pushes (length (now (to .entry))) (level (take n (now (to .entry))) [])
+        (children (now («node_words» .entry)) nodes hash node))
         × within r (length (now (to .entry))) ⌝ }
 {
     let literal = sublist_area::literal_child(node_words, nodes, node, hash);

@@ -1,4 +1,5 @@
 -- `sublist_walk::match_walk` meets its contract. Assumes nothing.
+use native.Mathlib.Omega.{arith}
 use borrow.Author.Needs.{needs}
 use Rattle.sublist_walk.proofs.Writing.{narrow-answers, wide-answers, wide-19}
 use Rattle.sublist_walk.proofs.match_walk.Statement.{statement}
@@ -32,7 +33,7 @@ returns c =
     let start = after-match-narrow .before .before .before .before .before .before in
     let a = start .args in
     let k = after-match-narrow .match-narrow in
-    narrow-answers (a .nodes) (a .targets) (a .node-words .now) (a .target-words .now) (a .subject .now) (a .out .now) (k .result) _ (k .ensures) _ (after-r .r .given .1)
+    narrow-answers 1024 (omega arith) (a .nodes) (a .targets) (a .node-words .now) (a .target-words .now) (a .subject .now) (a .out .now) (k .result) _ (k .ensures) _ (after-r .r .given .1)
 
 same-length-2 : tie.Need-same-length-2
 same-length-2 c = search needs
@@ -47,7 +48,7 @@ returns-2 c =
     let a = start .args in
     let k = after-match-narrow .match-narrow in
     let j = after-match-wide .match-wide in
-    wide-answers (a .nodes) (a .targets) (a .node-words .now) (a .target-words .now) (a .subject .now) (a .out .now) (k .result) _ (k .ensures) (after-enum-told .enum-told .given .1)
+    wide-answers 1024 (omega arith) (a .nodes) (a .targets) (a .node-words .now) (a .target-words .now) (a .subject .now) (a .out .now) (k .result) _ (k .ensures) (after-enum-told .enum-told .given .1)
     (j .result) _ (j .ensures) _ (after-r .r2 .given .1)
 
 same-length-3 : tie.Need-same-length-3
@@ -62,7 +63,7 @@ returns-3 c =
     let a = start .args in
     let k = after-match-narrow .match-narrow in
     let j = after-match-wide .match-wide in
-    wide-19 (a .nodes) (a .targets) (a .node-words .now) (a .target-words .now) (a .subject .now) (a .out .now) (k .result) _ (k .ensures) (after-enum-told .enum-told .given .1)
+    wide-19 1024 (omega arith) (a .nodes) (a .targets) (a .node-words .now) (a .target-words .now) (a .subject .now) (a .out .now) (k .result) _ (k .ensures) (after-enum-told .enum-told .given .1)
     (j .result) _ (j .ensures) (c .enum-told2 .given .1)
 
 pub match-walk-spec : {M : Type 1} → statement M

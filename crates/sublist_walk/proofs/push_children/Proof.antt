@@ -35,7 +35,8 @@ returns : tie.Need-returns
 returns c =
     let after-f = c .before in
     let after-push-child = after-f .before .before .before .before in
-    let after-literal-child = after-push-child .before .before .before in
+    let after-star-child = after-push-child .before .before in
+    let after-literal-child = after-star-child .before in
     let start = after-literal-child .before .before .before in
     let a = start .args in
     let d = after-literal-child .literal-child in
