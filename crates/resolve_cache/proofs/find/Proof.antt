@@ -15,9 +15,6 @@ Inv-loop heads keys n subject size₀ i₀ i = (i ≤ n) × (n ≤ 1024) × (3 *
 abbrev μ-loop : tie.MeasureT-loop
 μ-loop heads keys n subject size₀ i₀ i = n - i
 
-next-of-size-requires : tie.Need-next-of-size-requires Inv-loop μ-loop
-next-of-size-requires c κs = search needs
-
 loop-holds : tie.Need-loop-holds Inv-loop μ-loop
 loop-holds c =
     let s = c .before .before .before .before in
@@ -41,12 +38,6 @@ returns c =
     let a = c .before .before .before .before .before .before .before .before .args in
     let l = c .before .before .before .loop in
     found-here (a .heads .now) (a .keys .now) (a .subject .now) (l .i) (a .n) (findFrom (a .heads .now) (a .keys .now) (a .subject .now) 0 (a .n)) (omega arith) (l .inv .4) (sym (c .before .keeps .ensures) ∙ c .if1 .taken)
-
-add-next-of-size : tie.Need-add-next-of-size Inv-loop μ-loop
-add-next-of-size c = search needs
-
-next-of-size-requires-2 : tie.Need-next-of-size-requires-2 Inv-loop μ-loop
-next-of-size-requires-2 c κs = search needs
 
 loop-less : tie.Need-loop-less Inv-loop μ-loop
 loop-less c = omega (arith, c .next-of-size2 .ensures .forward)
@@ -74,15 +65,5 @@ returns-2 c =
 pub find-spec : {M : Type 1} → statement M
 find-spec =
     tie.close
-    (tie.spec
-    Inv-loop
-    μ-loop
-    next-of-size-requires
-    loop-holds
-    keeps-requires
-    returns
-    add-next-of-size
-    next-of-size-requires-2
-    loop-less
-    loop-again
-    returns-2)
+    (tie.spec Inv-loop μ-loop (λ c κs. search needs) loop-holds keeps-requires returns (λ c. search needs)
+    (λ c κs. search needs) loop-less loop-again returns-2)

@@ -43,9 +43,6 @@ good-4 c =
 loop-holds : tie.Need-loop-holds Inv-loop μ-loop
 loop-holds c = (omega arith, omega arith, omega arith, ap (badFrom (c .before .args .heads .now) 0) (let e : c .before .args .n - 0 ≡ c .before .args .n = omega arith in e))
 
-sub-loop : tie.Need-sub-loop Inv-loop μ-loop
-sub-loop c = search needs
-
 slot-is-bad-requires : tie.Need-slot-is-bad-requires Inv-loop μ-loop
 slot-is-bad-requires c κs = (omega arith, omega arith)
 
@@ -54,9 +51,6 @@ returns c =
     let l = c .before .before .before in
     let a = l .before .before .args in
     bad-slot (a .heads .now) (l .loop .i) (a .n) (badFrom (a .heads .now) 0 (a .n)) (omega arith) (l .loop .inv .3) (sym (c .before .slot-is-bad .ensures) ∙ c .if1 .taken)
-
-add-slot-is-bad : tie.Need-add-slot-is-bad Inv-loop μ-loop
-add-slot-is-bad c = search needs
 
 slot-is-bad-requires-2 : tie.Need-slot-is-bad-requires-2 Inv-loop μ-loop
 slot-is-bad-requires-2 c κs = (omega arith, omega arith)
@@ -67,9 +61,6 @@ returns-2 c =
     let a = l .before .before .args in
     bad-slot (a .heads .now) (l .loop .i + 1) (a .n) (badFrom (a .heads .now) 0 (a .n)) (omega arith) (good-1 (c .before .before)) (sym (c .before .slot-is-bad2 .ensures) ∙ c .if2 .taken)
 
-add-slot-is-bad-2 : tie.Need-add-slot-is-bad-2 Inv-loop μ-loop
-add-slot-is-bad-2 c = search needs
-
 slot-is-bad-requires-3 : tie.Need-slot-is-bad-requires-3 Inv-loop μ-loop
 slot-is-bad-requires-3 c κs = (omega arith, omega arith)
 
@@ -79,9 +70,6 @@ returns-3 c =
     let a = l .before .before .args in
     bad-slot (a .heads .now) (l .loop .i + 2) (a .n) (badFrom (a .heads .now) 0 (a .n)) (omega arith) (good-2 (c .before .before)) (sym (c .before .slot-is-bad3 .ensures) ∙ c .if3 .taken)
 
-add-slot-is-bad-3 : tie.Need-add-slot-is-bad-3 Inv-loop μ-loop
-add-slot-is-bad-3 c = search needs
-
 slot-is-bad-requires-4 : tie.Need-slot-is-bad-requires-4 Inv-loop μ-loop
 slot-is-bad-requires-4 c κs = (omega arith, omega arith)
 
@@ -90,12 +78,6 @@ returns-4 c =
     let l = c .before .before .before .before .before .before .before .before .before in
     let a = l .before .before .args in
     bad-slot (a .heads .now) (l .loop .i + 3) (a .n) (badFrom (a .heads .now) 0 (a .n)) (omega arith) (good-3 (c .before .before)) (sym (c .before .slot-is-bad4 .ensures) ∙ c .if4 .taken)
-
-add-i : tie.Need-add-i Inv-loop μ-loop
-add-i c = search needs
-
-loop-less : tie.Need-loop-less Inv-loop μ-loop
-loop-less c = search needs
 
 loop-again : tie.Need-loop-again Inv-loop μ-loop
 loop-again c = (omega arith, omega arith, omega arith, good-4 c)
@@ -109,24 +91,7 @@ returns-5 c = c .has-bad-slot-from .ensures ∙ c .before .before .loop .inv .3
 pub has-bad-slot-spec : {M : Type 1} → statement M
 has-bad-slot-spec =
     tie.close
-    (tie.spec
-    Inv-loop
-    μ-loop
-    loop-holds
-    sub-loop
-    slot-is-bad-requires
-    returns
-    add-slot-is-bad
-    slot-is-bad-requires-2
-    returns-2
-    add-slot-is-bad-2
-    slot-is-bad-requires-3
-    returns-3
-    add-slot-is-bad-3
-    slot-is-bad-requires-4
-    returns-4
-    add-i
-    loop-less
-    loop-again
-    has-bad-slot-from-requires
+    (tie.spec Inv-loop μ-loop loop-holds (λ c. search needs) slot-is-bad-requires returns (λ c. search needs)
+    slot-is-bad-requires-2 returns-2 (λ c. search needs) slot-is-bad-requires-3 returns-3 (λ c. search needs)
+    slot-is-bad-requires-4 returns-4 (λ c. search needs) (λ c. search needs) loop-again has-bad-slot-from-requires
     returns-5)

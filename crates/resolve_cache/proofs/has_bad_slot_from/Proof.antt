@@ -27,12 +27,6 @@ returns c =
     let a = l .before .before .args in
     bad-slot (a .heads .now) (l .loop .i) (a .n) (badFrom (a .heads .now) (a .from) (a .n - a .from)) (omega arith) (l .loop .inv .3) (sym (c .before .slot-is-bad .ensures) ∙ c .if1 .taken)
 
-add-i : tie.Need-add-i Inv-loop μ-loop
-add-i c = search needs
-
-loop-less : tie.Need-loop-less Inv-loop μ-loop
-loop-less c = search needs
-
 loop-again : tie.Need-loop-again Inv-loop μ-loop
 loop-again c =
     let l = c .before .before .before in
@@ -50,4 +44,7 @@ returns-2 c =
     bad-end (a .heads .now) (c .before .loop .i) (a .n) (omega arith) (badFrom (a .heads .now) (a .from) (a .n - a .from)) (c .before .loop .inv .3)
 
 pub has-bad-slot-from-spec : {M : Type 1} → statement M
-has-bad-slot-from-spec = tie.close (tie.spec Inv-loop μ-loop loop-holds slot-is-bad-requires returns add-i loop-less loop-again returns-2)
+has-bad-slot-from-spec =
+    tie.close
+    (tie.spec Inv-loop μ-loop loop-holds slot-is-bad-requires returns (λ c. search needs) (λ c. search needs)
+    loop-again returns-2)
