@@ -25,7 +25,7 @@ pub record Wide (n : ℕ) (a : Area) : Type 0 where
   pub keys : 256 * n ≤ length (a .keys)
   pub kept : 16 * n ≤ length (a .kept)
 
-or-false : (a b : Bool) → or a b ≡ false → (a ≡ false) × (b ≡ false)
+pub or-false : (a b : Bool) → or a b ≡ false → (a ≡ false) × (b ≡ false)
 or-false true b e = (e, cc)
 or-false false b e = (refl, e)
 

@@ -26,10 +26,14 @@ short capacity a =
     (or (ltb (length (a .keys)) (256 * capacity))
     (ltb (length (a .kept)) (16 * capacity))))
 
--- one of n slots from i on has a key over 256 bytes or over 16 targets
+-- a slot has a key over 256 bytes or over 16 targets
+abbrev pub badSlot : List ℕ → ℕ → Bool
+badSlot heads i = or (ltb 256 (keyLength heads i)) (ltb 16 (targetCount heads i))
+
+-- one of n slots from i on does
 abbrev pub badFrom : List ℕ → ℕ → ℕ → Bool
 badFrom heads i zero = false
-badFrom heads i (suc n) = or (or (ltb 256 (keyLength heads i)) (ltb 16 (targetCount heads i))) (badFrom heads (suc i) n)
+badFrom heads i (suc n) = or (badSlot heads i) (badFrom heads (suc i) n)
 
 -- 18: capacity is 0, more slots are used than capacity, or a used slot is bad
 abbrev pub bad : ResolveCache → Area → Bool

@@ -6,6 +6,7 @@ use lib.ListN.{length, replicate}
 use Rattle.subject.specs.Answers.{Answer, answer}
 use Rattle.sublist_tree.specs.Timetable.{bytes}
 use Rattle.sublist_snapshot.specs.declared.Snapshot.{Snapshot}
+use Rattle.sublist_snapshot.specs.Rows.{snapshot, upTo, catchAll}
 use Rattle.resolve_cache.specs.declared.ResolveCache.{ResolveCache}
 use Rattle.resolve_cache.specs.Area.{Area}
 use Rattle.resolve_cache.specs.Cache.{withCapacity, clear, resolve}
@@ -48,33 +49,17 @@ pub record Standing : Type 0 where
 -- a table of one node, of a generation, whose `>` targets are these: each subject finds them
 abbrev pub table : ℕ → List ℕ → Standing
 table generation targets = record {
-  snapshot = record {
-    nodes = 1;
-    targets = length targets;
-    generation = record { 0 = generation };
-    next = record { 0 = 1 };
-  };
+  snapshot = snapshot 1 (length targets) generation 1;
   words = 0 ∷ 0 ∷ 0 ∷ 0 ∷ 0 ∷ 0 ∷ 0 ∷ length targets ∷ (replicate 8 0 ++ targets);
 }
 
 -- a table of no node
 abbrev pub damaged : Standing
-damaged = record {
-  snapshot = record { nodes = 0; targets = 0; generation = record { 0 = 0 }; next = record { 0 = 1 } };
-  words = [];
-}
+damaged = record { snapshot = snapshot 0 0 0 1; words = [] }
 
 -- a table of one node, of generation 0, whose `>` target lies outside: its counts stand, and a walk fails
 abbrev pub broken : Standing
-broken = record {
-  snapshot = record { nodes = 1; targets = 0; generation = record { 0 = 0 }; next = record { 0 = 1 } };
-  words = 0 ∷ 0 ∷ 0 ∷ 0 ∷ 0 ∷ 0 ∷ 0 ∷ 1 ∷ replicate 8 0;
-}
-
--- the numbers from 1 to n
-abbrev pub upTo : ℕ → List ℕ
-upTo zero = []
-upTo (suc n) = upTo n ++ (suc n ∷ [])
+broken = record { snapshot = snapshot 1 0 0 1; words = catchAll }
 
 -- n times the byte of a
 abbrev pub long : ℕ → List ℕ

@@ -18,7 +18,7 @@ found : (k : tie.After-find) (i : ℕ) → k .find .result ≡ At i
     findFrom (a .heads .now) (a .keys .now) (a .subject .now) 0 (a .n) ≡ some i
 found k i q = sym (k .find .ensures) ∙ ap slotOf q
 
-inside : (k : tie.After-find) (i : ℕ) → k .find .result ≡ At i → i < k .before .before .before .before .args .n
+inside : (k : tie.After-find) (i : ℕ) → k .find .result ≡ At i → let a = k .before .before .before .before .args in i < a .n
 inside k i q =
     let a = k .before .before .before .before .args in
     omega (arith, find-sound (a .heads .now) (a .keys .now) (a .subject .now) 0 (a .n) i (found k i q) .below)
