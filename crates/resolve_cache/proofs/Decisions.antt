@@ -23,7 +23,8 @@ use Rattle.resolve_cache.specs.declared.ResolveAnswer.{ResolveAnswer}
 use Rattle.resolve_cache.specs.declared.ResolveAnswer.the-variants.{CacheShort, BadSlot, Damaged, OutShort}
 use Rattle.resolve_cache.specs.declared.Decision.the-variants.{Refuse, Hit}
 use Rattle.resolve_cache.specs.Area.{Area, keyLength, targetCount}
-use Rattle.resolve_cache.specs.Cache.{short, badSlot, badFrom, bad, findFrom, emptied, adopt, Resolved, unchanged, workBy, work, ifAccepted, resolve}
+use Rattle.resolve_cache.specs.Cache.{short, badSlot, badFrom, bad, findFrom, emptied, adopt, Resolved}
+use Rattle.resolve_cache.specs.Cache.{unchanged, workBy, work, ifAccepted, resolve}
 use Rattle.resolve_cache.specs.Answers.{resolveAnswer}
 use Rattle.resolve_cache.specs.Deciding.{Roomy, Ready, Small, seen, current, showing, Decides}
 use Rattle.resolve_cache.proofs.Slots.{or-false, short-wide, find-sound}

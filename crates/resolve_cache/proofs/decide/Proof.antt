@@ -9,7 +9,8 @@ use borrow.Author.Tests.{not-true, not-false}
 use Rattle.resolve_cache.specs.Cache.{short, bad, adopt, findFrom}
 use Rattle.resolve_cache.specs.Answers.{lent}
 use Rattle.resolve_cache.specs.Deciding.{seen, Decides}
-use Rattle.resolve_cache.proofs.Decisions.{short-roomy, good-ready, good-small, adopt-used, text-refused, refused-short, refused-bad, refused-damaged, looked}
+use Rattle.resolve_cache.proofs.Decisions.{short-roomy, good-ready, good-small, adopt-used, text-refused}
+use Rattle.resolve_cache.proofs.Decisions.{refused-short, refused-bad, refused-damaged, looked}
 use Rattle.resolve_cache.proofs.decide.Statement.{statement}
 use Rattle.resolve_cache.proofs.decide.Tie as tie
 
