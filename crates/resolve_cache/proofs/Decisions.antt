@@ -23,14 +23,11 @@ use Rattle.resolve_cache.specs.declared.ResolveAnswer.{ResolveAnswer}
 use Rattle.resolve_cache.specs.declared.ResolveAnswer.the-variants.{CacheShort, BadSlot, Damaged, OutShort}
 use Rattle.resolve_cache.specs.declared.Decision.the-variants.{Refuse, Hit}
 use Rattle.resolve_cache.specs.Area.{Area, keyLength, targetCount}
-use Rattle.resolve_cache.specs.Cache.{short, badFrom, bad, findFrom, emptied, adopt, Resolved, unchanged, workBy, work, ifAccepted, resolve}
+use Rattle.resolve_cache.specs.Cache.{short, badSlot, badFrom, bad, findFrom, emptied, adopt, Resolved}
+use Rattle.resolve_cache.specs.Cache.{unchanged, workBy, work, ifAccepted, resolve}
 use Rattle.resolve_cache.specs.Answers.{resolveAnswer}
 use Rattle.resolve_cache.specs.Deciding.{Roomy, Ready, Small, seen, current, showing, Decides}
-use Rattle.resolve_cache.proofs.Slots.{short-wide, find-sound}
-
-or-false : (a b : Bool) → or a b ≡ false → (a ≡ false) × (b ≡ false)
-or-false true b e = (e, cc)
-or-false false b e = (refl, e)
+use Rattle.resolve_cache.proofs.Slots.{or-false, short-wide, find-sound}
 
 -- 17 does not apply
 pub short-roomy : (n : ℕ) (a : Area) → short n a ≡ false → Roomy n a
@@ -40,8 +37,8 @@ small-from : (heads : List ℕ) (i n : ℕ) → badFrom heads i n ≡ false → 
 small-from heads i zero e j h k = absurd (omega arith)
 small-from heads i (suc n) e j h k = go (eqb i j) refl (λ l. small-from heads (suc i) n (both .1) j l (omega arith))
   where
-    both : (or (ltb 256 (keyLength heads i)) (ltb 16 (targetCount heads i)) ≡ false) × (badFrom heads (suc i) n ≡ false)
-    both = or-false (or (ltb 256 (keyLength heads i)) (ltb 16 (targetCount heads i))) (badFrom heads (suc i) n) e
+    both : (badSlot heads i ≡ false) × (badFrom heads (suc i) n ≡ false)
+    both = or-false (badSlot heads i) (badFrom heads (suc i) n) e
 
     here : keyLength heads i ≤ 256
     here = ltb-false 256 (keyLength heads i) (or-false (ltb 256 (keyLength heads i)) (ltb 16 (targetCount heads i)) (both .0) .0)

@@ -19,8 +19,13 @@ use Rattle.sublist_snapshot.specs.declared.Snapshot.{Snapshot}
 use Rattle.sublist_snapshot.specs.Snapshot.{standsIn, walkOf}
 use Rattle.resolve_cache.specs.declared.ResolveCache.{ResolveCache}
 use Rattle.resolve_cache.specs.Area.{Area, keyLength, targetCount, keyAt, targetsAt, keep, touch}
-use Rattle.resolve_cache.specs.Cache.{short, bad, findFrom, oldestFrom, place, fresh, cacheNumbers, withCapacity, clear, emptied, adopt, ticked, hit, walked, grown, inKept, inOut, Handed, turnedBack, gives, handed, Resolved, unchanged, missed, hitAt, miss, workBy, work, ifAccepted, resolveBy, resolve}
-use Rattle.resolve_cache.proofs.Slots.{Wide, short-wide, wide-short, Alike, keep-wide, keep-length, keep-count, keep-key, keep-targets, keep-other, touch-wide, touch-alike, targets-length, small-good, find-sound, oldest-below}
+use Rattle.resolve_cache.specs.Cache.{short, bad, findFrom, oldestFrom, place, fresh, cacheNumbers}
+use Rattle.resolve_cache.specs.Cache.{withCapacity, clear, emptied, adopt, ticked, hit, walked, grown, inKept}
+use Rattle.resolve_cache.specs.Cache.{inOut, Handed, turnedBack, gives, handed, Resolved, unchanged, missed}
+use Rattle.resolve_cache.specs.Cache.{hitAt, miss, workBy, work, ifAccepted, resolveBy, resolve}
+use Rattle.resolve_cache.proofs.Slots.{Wide, short-wide, wide-short, Alike, keep-wide, keep-length, keep-count}
+use Rattle.resolve_cache.proofs.Slots.{keep-key, keep-targets, keep-other, touch-wide, touch-alike}
+use Rattle.resolve_cache.proofs.Slots.{targets-length, small-good, find-sound, oldest-below}
 
 -- where the cache is on the standing table's generation, it keeps what is due
 pub record Faithful (due : List ℕ → List ℕ) (g : ℕ) (c : ResolveCache) (a : Area) : Type 0 where

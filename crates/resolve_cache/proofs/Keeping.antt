@@ -22,7 +22,8 @@ use Rattle.resolve_cache.specs.declared.ResolveCache.{ResolveCache}
 use Rattle.resolve_cache.specs.declared.ResolveAnswer.the-variants as answers
 use Rattle.resolve_cache.specs.declared.Resolved.{Resolved as Returned}
 use Rattle.resolve_cache.specs.Area.{Area, keep}
-use Rattle.resolve_cache.specs.Cache.{place, adopt, ticked, walked, grown, qualifies, inOut, Resolved, unchanged, missed, miss, ifAccepted}
+use Rattle.resolve_cache.specs.Cache.{place, adopt, ticked, walked, grown, qualifies, inOut, Resolved}
+use Rattle.resolve_cache.specs.Cache.{unchanged, missed, miss, ifAccepted}
 use Rattle.resolve_cache.specs.Answers.{left}
 use Rattle.resolve_cache.specs.Deciding.{Ready, Keeps, current, walking}
 use Rattle.resolve_cache.proofs.Decisions.{adopt-used}

@@ -17,7 +17,9 @@ use Rattle.sublist_snapshot.specs.declared.Snapshot.{Snapshot}
 use Rattle.sublist_snapshot.specs.Snapshot.{standsIn, walkOf}
 use Rattle.resolve_cache.specs.declared.ResolveCache.{ResolveCache}
 use Rattle.resolve_cache.specs.Area.{Area, targetCount, keep, touch}
-use Rattle.resolve_cache.specs.Cache.{short, bad, findFrom, place, adopt, ticked, hit, walked, grown, qualifies, inKept, inOut, listAt, Resolved, unchanged, hitAt, miss, workBy, ifAccepted, resolve}
+use Rattle.resolve_cache.specs.Cache.{short, bad, findFrom, place, adopt, ticked, hit, walked, grown, qualifies}
+use Rattle.resolve_cache.specs.Cache.{inKept, inOut, listAt, Resolved, unchanged, hitAt, miss, workBy}
+use Rattle.resolve_cache.specs.Cache.{ifAccepted, resolve}
 
 -- by the answer's number
 abbrev pub Leaves : ResolveCache → Area → List ℕ → Resolved → Answer → Type 0

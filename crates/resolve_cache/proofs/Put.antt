@@ -4,7 +4,8 @@ use native.Mathlib.Omega.{arith}
 use mathlib.Core.Path.{_≡_, sym, _∙_, ap}
 use mathlib.Core.List.{List, _++_, append-assoc}
 use lib.ListN.{length, take, drop, getD, length-append, length-drop, take-append-drop, List·getD-append}
-use lib.Seq.{take-append-seam, take-append-le, drop-append-le, drop-append-add, getD-append-add, getD-drop, getD-take, drop-drop, length-take-le, drop-at}
+use lib.Seq.{take-append-seam, take-append-le, drop-append-le, drop-append-add, getD-append-add, getD-drop, getD-take}
+use lib.Seq.{drop-drop, length-take-le, drop-at}
 use Rattle.sublist_walk.specs.Walk.{part}
 use Rattle.sublist_tree.specs.Lists.{put}
 

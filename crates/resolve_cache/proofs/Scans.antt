@@ -14,7 +14,7 @@ use Rattle.subject.specs.Choice.{pick, or}
 use Rattle.subject.specs.Text.{same}
 use Rattle.sublist_tree.proofs.Bytes.{same-sound}
 use Rattle.resolve_cache.specs.Area.{keyLength, targetCount, stampAt, keyAt}
-use Rattle.resolve_cache.specs.Cache.{badFrom, findFrom, oldestFrom}
+use Rattle.resolve_cache.specs.Cache.{badSlot, badFrom, findFrom, oldestFrom}
 use Rattle.resolve_cache.specs.Deciding.{Small, Passes}
 
 left-one : (i n : ℕ) → i < n → n - i ≡ suc (n - suc i)
@@ -36,21 +36,21 @@ module _ (heads : List ℕ) (i n : ℕ) (h : n ≤ i) where
 
 -- slot i is bad, or the scan goes on
 module _ (heads : List ℕ) (i n : ℕ) (x : Bool) (h : i < n) (e : badFrom heads i (n - i) ≡ x) where
-  bad-here : or (or (ltb 256 (keyLength heads i)) (ltb 16 (targetCount heads i))) (badFrom heads (suc i) (n - suc i)) ≡ x
+  bad-here : or (badSlot heads i) (badFrom heads (suc i) (n - suc i)) ≡ x
   bad-here = rw (left-one i n h) at e
 
-  pub bad-slot : or (ltb 256 (keyLength heads i)) (ltb 16 (targetCount heads i)) ≡ true → true ≡ x
+  pub bad-slot : badSlot heads i ≡ true → true ≡ x
   bad-slot q = rw q at bad-here
 
-  pub good-slot : or (ltb 256 (keyLength heads i)) (ltb 16 (targetCount heads i)) ≡ false → (j : ℕ) → j ≡ i + 1 → badFrom heads j (n - j) ≡ x
+  pub good-slot : badSlot heads i ≡ false → (j : ℕ) → j ≡ i + 1 → badFrom heads j (n - j) ≡ x
   good-slot q j k = rw (k, add-one) (rw q at bad-here)
 
 -- whether slot i is bad
 module _ (heads : List ℕ) (i : ℕ) where
-  pub long-key : 256 < keyLength heads i → true ≡ or (ltb 256 (keyLength heads i)) (ltb 16 (targetCount heads i))
+  pub long-key : 256 < keyLength heads i → true ≡ badSlot heads i
   long-key l = rw (lt-ltb 256 (keyLength heads i) l)
 
-  pub short-key : keyLength heads i ≤ 256 → ltb 16 (targetCount heads i) ≡ or (ltb 256 (keyLength heads i)) (ltb 16 (targetCount heads i))
+  pub short-key : keyLength heads i ≤ 256 → ltb 16 (targetCount heads i) ≡ badSlot heads i
   short-key l = rw (le-ltb 256 (keyLength heads i) l)
 
 -- slot i keeps the subject, or the scan goes on

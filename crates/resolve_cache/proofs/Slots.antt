@@ -16,7 +16,8 @@ use Rattle.sublist_walk.specs.Walk.{part}
 use Rattle.sublist_tree.specs.Lists.{put}
 use Rattle.resolve_cache.specs.Area.{Area, keyLength, targetCount, stampAt, keyAt, targetsAt, keep, touch}
 use Rattle.resolve_cache.specs.Cache.{short, badFrom, findFrom, oldestFrom}
-use Rattle.resolve_cache.proofs.Put.{length-put, part-put, part-before, part-behind, getD-put-in, getD-put-before, getD-put-behind}
+use Rattle.resolve_cache.proofs.Put.{length-put, part-put, part-before, part-behind, getD-put-in}
+use Rattle.resolve_cache.proofs.Put.{getD-put-before, getD-put-behind}
 
 -- the area holds n slots
 pub record Wide (n : ℕ) (a : Area) : Type 0 where
@@ -25,7 +26,7 @@ pub record Wide (n : ℕ) (a : Area) : Type 0 where
   pub keys : 256 * n ≤ length (a .keys)
   pub kept : 16 * n ≤ length (a .kept)
 
-or-false : (a b : Bool) → or a b ≡ false → (a ≡ false) × (b ≡ false)
+pub or-false : (a b : Bool) → or a b ≡ false → (a ≡ false) × (b ≡ false)
 or-false true b e = (e, cc)
 or-false false b e = (refl, e)
 

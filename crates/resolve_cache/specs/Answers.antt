@@ -1,11 +1,13 @@
--- 01's numbers and values for the answers of the resolve cache, and what a call answered and left as the calls' definitions have it.
+-- 01's numbers and values for the answers of the resolve cache,
+-- and what a call answered and left as the calls' definitions have it.
 use Prim.Native.Nat.{ℕ}
 use mathlib.Core.List.{List, [], _∷_}
 use Rattle.subject.specs.Answers.{Answer, answer, refusal}
 use Rattle.resolve_cache.specs.declared.MadeCache.{MadeCache}
 use Rattle.resolve_cache.specs.declared.MadeCache.the-variants.{Made, CacheShort as MadeShort}
 use Rattle.resolve_cache.specs.declared.ResolveAnswer.{ResolveAnswer}
-use Rattle.resolve_cache.specs.declared.ResolveAnswer.the-variants.{Kept, Walked, Invalid, CacheShort, BadSlot, Damaged, OutShort}
+use Rattle.resolve_cache.specs.declared.ResolveAnswer.the-variants.{Kept, Walked, Invalid}
+use Rattle.resolve_cache.specs.declared.ResolveAnswer.the-variants.{CacheShort, BadSlot, Damaged, OutShort}
 use Rattle.resolve_cache.specs.declared.Resolved.{Resolved as Returned}
 use Rattle.resolve_cache.specs.Area.{Area}
 use Rattle.resolve_cache.specs.Cache.{cacheNumbers, inKept, inOut, Handed, turnedBack, gives, Resolved}

@@ -26,10 +26,14 @@ short capacity a =
     (or (ltb (length (a .keys)) (256 * capacity))
     (ltb (length (a .kept)) (16 * capacity))))
 
--- one of n slots from i on has a key over 256 bytes or over 16 targets
+-- a slot has a key over 256 bytes or over 16 targets
+abbrev pub badSlot : List ℕ → ℕ → Bool
+badSlot heads i = or (ltb 256 (keyLength heads i)) (ltb 16 (targetCount heads i))
+
+-- one of n slots from i on does
 abbrev pub badFrom : List ℕ → ℕ → ℕ → Bool
 badFrom heads i zero = false
-badFrom heads i (suc n) = or (or (ltb 256 (keyLength heads i)) (ltb 16 (targetCount heads i))) (badFrom heads (suc i) n)
+badFrom heads i (suc n) = or (badSlot heads i) (badFrom heads (suc i) n)
 
 -- 18: capacity is 0, more slots are used than capacity, or a used slot is bad
 abbrev pub bad : ResolveCache → Area → Bool
@@ -38,7 +42,8 @@ bad c a = or (eqb (c .capacity) 0) (or (ltb (c .capacity) (c .used)) (badFrom (a
 -- the first of n slots from i on that keeps the subject
 abbrev pub findFrom : List ℕ → List ℕ → List ℕ → ℕ → ℕ → Option ℕ
 findFrom heads keys subject i zero = none
-findFrom heads keys subject i (suc n) = pick (same (keyAt heads keys i) subject) (some i) (findFrom heads keys subject (suc i) n)
+findFrom heads keys subject i (suc n) =
+    pick (same (keyAt heads keys i) subject) (some i) (findFrom heads keys subject (suc i) n)
 
 -- the slot of smallest stamp among best and n slots from i on, the lowest on a tie
 abbrev pub oldestFrom : List ℕ → ℕ → ℕ → ℕ → ℕ
@@ -51,7 +56,8 @@ place c a = pick (ltb (c .used) (c .capacity)) (c .used) (oldestFrom (a .heads) 
 
 -- generation, tick and walks 0
 abbrev pub fresh : ℕ → ResolveCache
-fresh capacity = record { capacity = capacity; used = 0; generation = record { 0 = 0 }; tick = record { 0 = 0 }; walks = 0 }
+fresh capacity =
+    record { capacity = capacity; used = 0; generation = record { 0 = 0 }; tick = record { 0 = 0 }; walks = 0 }
 
 -- a state as the values of an answer
 abbrev pub cacheNumbers : ResolveCache → List ℕ
@@ -101,7 +107,8 @@ grown c = record {
 abbrev pub qualifies : List ℕ → List ℕ → Bool
 qualifies subject list = not (or (ltb 256 (length subject)) (ltb 16 (length list)))
 
--- an accepted resolve says where its list lies: 0 for the cache's targets or 1 for the output, the place where it starts, and its length
+-- an accepted resolve says where its list lies: 0 for the cache's targets or 1 for the output,
+-- the place where it starts, and its length
 abbrev pub inKept : ℕ → ℕ → Answer
 inKept from count = answer 0 (0 ∷ from ∷ count ∷ [])
 
@@ -112,7 +119,8 @@ inOut count = answer 0 (1 ∷ 0 ∷ count ∷ [])
 abbrev pub listAt : List ℕ → List ℕ → List ℕ → List ℕ
 listAt values kept out = part (pick (eqb (getD values 0 0) 0) kept out) (getD values 1 0) (getD values 2 0)
 
--- what an answer hands back, read with the cache's targets and the output as the resolve left them: a refusal, or the list
+-- what an answer hands back, read with the cache's targets and the output as the resolve left them:
+-- a refusal, or the list
 pub data Handed : Type 0 where
   turnedBack : Answer → Handed
   gives : List ℕ → Handed
@@ -137,19 +145,30 @@ module _ (c : ResolveCache) (a : Area) (subject out : List ℕ) where
   abbrev pub missed : ResolveCache → List ℕ → Resolved
   missed e list =
       pick (qualifies subject list)
-      (record { says = inOut (length list); cache = grown e; area = keep a (place e a) subject list (ticked e .0); out = over list out })
+      (record {
+        says = inOut (length list);
+        cache = grown e;
+        area = keep a (place e a) subject list (ticked e .0);
+        out = over list out;
+      })
       (record { says = inOut (length list); cache = walked e; area = a; out = over list out })
 
   -- 21, then a hit: it stamps the slot and leaves the output
   abbrev pub hitAt : ResolveCache → ℕ → Resolved
   hitAt e i =
       pick (ltb (length out) (targetCount (a .heads) i)) (unchanged (answer 21 (targetCount (a .heads) i ∷ [])))
-      (record { says = inKept (16 * i) (targetCount (a .heads) i); cache = hit e; area = touch a i (ticked e .0); out = out })
+      (record {
+        says = inKept (16 * i) (targetCount (a .heads) i);
+        cache = hit e;
+        area = touch a i (ticked e .0);
+        out = out;
+      })
 
   -- 19 in the walk, then 21
   abbrev pub miss : ResolveCache → Walked → Resolved
   miss e (failed w) = unchanged (answer 19 [])
-  miss e (found list peak) = pick (ltb (length out) (length list)) (unchanged (answer 21 (length list ∷ []))) (missed e list)
+  miss e (found list peak) =
+      pick (ltb (length out) (length list)) (unchanged (answer 21 (length list ∷ []))) (missed e list)
 
   abbrev pub workBy : Option ℕ → ResolveCache → Walked → Resolved
   workBy (some i) e w = hitAt e i

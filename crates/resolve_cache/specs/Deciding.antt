@@ -1,4 +1,5 @@
--- Only private contracts cite this file: what a resolve comes to before anything is written, and what its steps ask for and leave.
+-- Only private contracts cite this file: what a resolve comes to before anything is written,
+-- and what its steps ask for and leave.
 use Prim.Native.Nat.{ℕ, _+_, _*_, _≤_, _<_}
 use mathlib.Core.Path.{_≡_}
 use mathlib.Core.Bool.{Bool, true, false}
@@ -20,7 +21,8 @@ use Rattle.resolve_cache.specs.declared.Resolved.{Resolved as Returned}
 use Rattle.resolve_cache.specs.declared.Decision.{Decision}
 use Rattle.resolve_cache.specs.declared.Decision.the-variants.{Refuse, Hit, Walk}
 use Rattle.resolve_cache.specs.Area.{Area, keyLength, targetCount, keep, touch}
-use Rattle.resolve_cache.specs.Cache.{findFrom, place, adopt, ticked, hit, walked, grown, qualifies, inKept, Resolved, unchanged, miss, ifAccepted, resolve}
+use Rattle.resolve_cache.specs.Cache.{findFrom, place, adopt, ticked, hit, walked, grown, qualifies, inKept}
+use Rattle.resolve_cache.specs.Cache.{Resolved, unchanged, miss, ifAccepted, resolve}
 use Rattle.resolve_cache.specs.Answers.{resolveAnswer}
 
 -- the three lists have room for n slots, 1,024 at the most
@@ -58,7 +60,9 @@ slotOf Nothing = none
 -- what a lookup comes to: a hit is refused where the output is shorter than the kept list
 abbrev pub seen : Option ℕ → List ℕ → ℕ → Decision
 seen none heads room = Walk
-seen (some i) heads room = pick (ltb room (targetCount heads i)) (Refuse (OutShort (targetCount heads i))) (Hit i (targetCount heads i))
+seen (some i) heads room =
+    let count = targetCount heads i in
+    pick (ltb room count) (Refuse (OutShort count)) (Hit i count)
 
 -- a walk's list is kept, or is not
 pub record Keeps (e : ResolveCache) (a : Area) (subject list : List ℕ) (r : Returned) (after : Area) : Type 0 where
@@ -73,13 +77,19 @@ module _ (c : ResolveCache) (a : Area) (s : Snapshot) (words subject out : List 
 
   -- what a hit at slot i leaves
   abbrev pub showing : ℕ → ℕ → Resolved
-  showing i count = record { says = inKept (16 * i) count; cache = hit current; area = touch a i (ticked current .0); out = out }
+  showing i count = record {
+    says = inKept (16 * i) count;
+    cache = hit current;
+    area = touch a i (ticked current .0);
+    out = out;
+  }
 
   -- what a walk leaves
   abbrev pub walking : Resolved
   walking =
       ifAccepted c a subject out (grammar false subject)
-      (pick (standsIn s words) (miss c a subject out current (walkOf s words subject)) (unchanged c a subject out (answer 19 [])))
+      (pick (standsIn s words) (miss c a subject out current (walkOf s words subject))
+      (unchanged c a subject out (answer 19 [])))
 
   -- the resolve is what the decision leads to
   abbrev pub Decides : Decision → Type 0

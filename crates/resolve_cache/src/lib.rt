@@ -4,17 +4,16 @@
 // stamp), `keys` 256 bytes, `kept` 16 targets.
 ghost use mathlib.Core.Path.{_≡_};
 ghost use mathlib.Core.List.{[], _∷_};
-ghost use Prim.Native.Nat.{suc, _+_, _*_, _-_, _≤_, _<_, max};
-ghost use lib.Dec.{eqb, ltb};
+ghost use Prim.Native.Nat.{_+_, _*_, _-_, _≤_, _<_, max};
+ghost use lib.Dec.{eqb};
 ghost use lib.ListN.{length};
-ghost use Rattle.subject.specs.Choice.{pick, or};
 ghost use Rattle.subject.specs.Text.{same};
 ghost use Rattle.subject.specs.Answers.{answer, parsed, whenAccepted};
 ghost use Rattle.sublist_tree.specs.Lists.{put};
 ghost use Rattle.sublist_walk.specs.Walk.{part};
 ghost use Rattle.sublist_snapshot.specs.Snapshot.{wrap};
-ghost use Rattle.resolve_cache.specs.Area.{keyLength, targetCount, keyAt, keep};
-ghost use Rattle.resolve_cache.specs.Cache.{short, badFrom, bad, findFrom, oldestFrom, place};
+ghost use Rattle.resolve_cache.specs.Area.{keyLength, keyAt, keep};
+ghost use Rattle.resolve_cache.specs.Cache.{short, badSlot, badFrom, bad, findFrom, oldestFrom, place};
 ghost use Rattle.resolve_cache.specs.Cache.{withCapacity, newCache, clear, adopt, ticked, hit, walked, grown};
 ghost use Rattle.resolve_cache.specs.Cache.{qualifies, handed, resolve};
 ghost use Rattle.resolve_cache.specs.Answers.{cacheAnswer, resolveAnswer, lent, left, listOf};
@@ -32,6 +31,11 @@ pub const SLOT_NUMBERS: usize = 3;
 pub const SLOT_BYTES: usize = 256;
 
 pub const SLOT_TARGETS: usize = 16;
+
+// Where a slot's number of targets and its stamp lie among its numbers; the key's length is the first.
+const COUNT_AT: usize = 1;
+
+const STAMP_AT: usize = 2;
 
 // A cache's own count of its resolves, which stamps its slots. A tick is never a generation.
 pub struct Tick(pub u64);
@@ -246,13 +250,12 @@ fn slot_is_bad(heads: &[u64], i: usize) -> bool
     requires { ⌜
         (i < 1024)
         × (3 * i + 3 ≤ length (now heads)) ⌝ }
-    ensures { λ r. ⌜
-        r ≡ or (ltb 256 (keyLength (now (heads .entry)) i)) (ltb 16 (targetCount (now (heads .entry)) i)) ⌝ }
+    ensures { λ r. ⌜ r ≡ badSlot (now (heads .entry)) i ⌝ }
 {
     if SLOT_BYTES < heads[SLOT_NUMBERS * i] as usize {
         return true;
     }
-    SLOT_TARGETS < heads[SLOT_NUMBERS * i + 1] as usize
+    SLOT_TARGETS < heads[SLOT_NUMBERS * i + COUNT_AT] as usize
 }
 
 // 18 on the slots from a place on: one of them is bad.
@@ -380,7 +383,7 @@ fn oldest(heads: &[u64], n: usize) -> usize
     let mut best = 0;
     let mut i = 1;
     while i < n {
-        if heads[SLOT_NUMBERS * i + 2] < heads[SLOT_NUMBERS * best + 2] {
+        if heads[SLOT_NUMBERS * i + STAMP_AT] < heads[SLOT_NUMBERS * best + STAMP_AT] {
             best = i;
         }
         i += 1;
@@ -451,8 +454,7 @@ fn walked(cache: ResolveCache) -> ResolveCache
 
 // How many slots are used once one more list is kept.
 fn used_after(cache: ResolveCache) -> usize
-    ensures { λ r. ⌜
-        r ≡ pick (ltb (cache .used) (cache .capacity)) (suc (cache .used)) (cache .used) ⌝ }
+    ensures { λ r. ⌜ r ≡ (grown cache) .used ⌝ }
 {
     if cache.used < cache.capacity {
         return cache.used + 1;
@@ -476,7 +478,7 @@ fn touch(heads: &mut [u64], i: usize, stamp: u64)
         × (3 * i + 3 ≤ length (now heads)) ⌝ }
     ensures { λ _. ⌜ now (heads .exit) ≡ put (now (heads .entry)) (3 * i + 2) (stamp ∷ []) ⌝ }
 {
-    heads[SLOT_NUMBERS * i + 2] = stamp;
+    heads[SLOT_NUMBERS * i + STAMP_AT] = stamp;
 }
 
 fn put_bytes(to: &mut [u8], from: usize, new: &[u8])
@@ -510,8 +512,8 @@ fn put_head(heads: &mut [u64], i: usize, size: usize, count: usize, stamp: u64)
         now (heads .exit) ≡ put (now (heads .entry)) (3 * i) (size ∷ count ∷ stamp ∷ []) ⌝ }
 {
     heads[SLOT_NUMBERS * i] = size as u64;
-    heads[SLOT_NUMBERS * i + 1] = count as u64;
-    heads[SLOT_NUMBERS * i + 2] = stamp;
+    heads[SLOT_NUMBERS * i + COUNT_AT] = count as u64;
+    heads[SLOT_NUMBERS * i + STAMP_AT] = stamp;
 }
 
 // A list is kept in a slot under a key, with a stamp.
@@ -680,7 +682,7 @@ fn look_up(heads: &[u64], keys: &[u8], n: usize, subject: &[u8], room: usize) ->
     match find(heads, keys, n, subject) {
         Slot::Nothing => Decision::Walk,
         Slot::At(slot) => {
-            let count = heads[SLOT_NUMBERS * slot + 1] as usize;
+            let count = heads[SLOT_NUMBERS * slot + COUNT_AT] as usize;
             if room < count {
                 return Decision::Refuse(ResolveAnswer::OutShort(count));
             }

@@ -13,7 +13,8 @@ use Rattle.sublist_tree.specs.Tree.{Line}
 use Rattle.sublist_walk.specs.Holds.{Holds}
 use Rattle.sublist_walk.proofs.Held.{counts-hold}
 use Rattle.sublist_snapshot.specs.declared.Snapshot.{Snapshot}
-use Rattle.sublist_snapshot.specs.Snapshot.{Table, lengthOf, sound, refusedTable, wordsOf, copied, stored, make, storeIn, nodesIn, targetsIn}
+use Rattle.sublist_snapshot.specs.Snapshot.{Table, lengthOf, sound, refusedTable, wordsOf, copied, stored, make}
+use Rattle.sublist_snapshot.specs.Snapshot.{storeIn, nodesIn, targetsIn}
 use Rattle.sublist_snapshot.proofs.Parts.{holds-part}
 
 -- the areas of a lent table hold the tree of these lines

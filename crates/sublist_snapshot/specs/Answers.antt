@@ -1,10 +1,12 @@
--- 01's numbers and values for the answers of the snapshot's calls, and what a call answered and left as the calls' definitions have it.
+-- 01's numbers and values for the answers of the snapshot's calls,
+-- and what a call answered and left as the calls' definitions have it.
 use Prim.Native.Nat.{ℕ}
 use mathlib.Core.List.{List, [], _∷_}
 use Rattle.subject.specs.Answers.{Answer, answer, refusal}
 use Rattle.sublist_snapshot.specs.declared.Sublist.{Sublist}
 use Rattle.sublist_snapshot.specs.declared.MadeSnapshot.{MadeSnapshot}
-use Rattle.sublist_snapshot.specs.declared.MadeSnapshot.the-variants.{Made as Fresh, Damaged as NotMade, StoreFull as NoRoom}
+use Rattle.sublist_snapshot.specs.declared.MadeSnapshot.the-variants.{Made as Fresh, Damaged as NotMade}
+use Rattle.sublist_snapshot.specs.declared.MadeSnapshot.the-variants.{StoreFull as NoRoom}
 use Rattle.sublist_snapshot.specs.declared.StoreAnswer.{StoreAnswer}
 use Rattle.sublist_snapshot.specs.declared.StoreAnswer.the-variants.{Stamped, Damaged as NotStored, StoreFull}
 use Rattle.sublist_snapshot.specs.declared.Stored.{Stored as Returned}

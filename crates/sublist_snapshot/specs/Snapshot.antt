@@ -1,4 +1,5 @@
--- The snapshot: the standing table's counts and generation by value, its words in a lent area. What each call answers, and the state and area that it leaves.
+-- The snapshot: the standing table's counts and generation by value, its words in a lent area.
+-- What each call answers, and the state and area that it leaves.
 use Prim.Native.Nat.{ℕ, zero, suc, _+_, _*_, _%_, _^_}
 use mathlib.Core.Bool.{Bool}
 use mathlib.Core.List.{List, [], _∷_, _++_, map}
@@ -36,7 +37,8 @@ sound t = countsFit (t .nodes) (t .targets) (t .nodeWords) (t .targetWords)
 
 -- 19, then 20: why a store or the making of a snapshot turns back
 abbrev pub refusedTable : Table → List ℕ → Option Answer
-refusedTable t area = pick (sound t) (pick (ltb (length area) (lengthOf t)) (some (answer 20 [])) none) (some (answer 19 []))
+refusedTable t area =
+    pick (sound t) (pick (ltb (length area) (lengthOf t)) (some (answer 20 [])) none) (some (answer 19 []))
 
 -- what is copied, to the front of the area: node words, then target words
 abbrev pub wordsOf : Table → List ℕ
@@ -51,7 +53,8 @@ first t = record { nodes = t .nodes; targets = t .targets; generation = t .gener
 
 -- a stored table is stamped with the counter, which goes up by one
 abbrev pub stored : Snapshot → Table → Snapshot
-stored s t = record { nodes = t .nodes; targets = t .targets; generation = s .next; next = record { 0 = wrap (s .next .0 + 1) } }
+stored s t =
+    record { nodes = t .nodes; targets = t .targets; generation = s .next; next = record { 0 = wrap (s .next .0 + 1) } }
 
 -- a state as the values of an answer
 abbrev pub snapshotNumbers : Snapshot → List ℕ
@@ -72,7 +75,8 @@ make t area = madeBy (refusedTable t area) t area
 
 -- the table of no entries: the root alone, of generation 0
 abbrev pub emptyTable : Table
-emptyTable = record { nodes = 1; targets = 0; generation = record { 0 = 0 }; nodeWords = replicate 16 0; targetWords = [] }
+emptyTable =
+    record { nodes = 1; targets = 0; generation = record { 0 = 0 }; nodeWords = replicate 16 0; targetWords = [] }
 
 -- `empty`
 unfoldable pub makeEmpty : List ℕ → Made
@@ -105,14 +109,17 @@ standsIn s area = and (ltb 0 (s .nodes)) (leb (s .nodes * 16 + s .targets) (leng
 
 -- what a walk of the standing table ends with
 abbrev pub walkOf : Snapshot → List ℕ → List ℕ → Walked
-walkOf s area subject = walkOver 1024 (nodesIn (s .nodes) area) (s .nodes) (s .targets) (targetsIn (s .nodes) (s .targets) area) (map fnv (tokens subject))
+walkOf s area subject =
+    walkOver 1024 (nodesIn (s .nodes) area) (s .nodes) (s .targets) (targetsIn (s .nodes) (s .targets) area)
+    (map fnv (tokens subject))
 
 -- an accepted match also returns the generation
 abbrev pub withGeneration : Generation → Outcome → Outcome
 withGeneration g (outcome (answer zero values) out) = outcome (answer 0 (values ++ (g .0 ∷ []))) out
 withGeneration g (outcome (answer (suc k) values) out) = outcome (answer (suc k) values) out
 
--- a match through the snapshot: 0 with the list's length, the peak and the generation, or a refusal; and the output afterwards
+-- a match through the snapshot: 0 with the list's length, the peak and the generation, or a refusal;
+-- and the output afterwards
 unfoldable pub matchIn : Snapshot → List ℕ → List ℕ → List ℕ → Outcome
 matchIn s area subject out =
     withGeneration (s .generation)

@@ -203,7 +203,7 @@ impl Snapshot {
         self.targets <= area.len() - self.nodes * sublist_area::NODE_WORDS
     }
 
-    // The list of the targets that a subject matches in the standing table, written over the first places of the output:
+    // The list of the targets that a subject matches in the standing table, written over the output's first places:
     // 1 to 9, then 19, then 21.
     pub fn match_into(self, area: &[u32], subject: &[u8], out: &mut [u32]) -> SnapshotMatch
         ensures { λ r. ⌜

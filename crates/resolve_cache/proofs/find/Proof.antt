@@ -1,7 +1,9 @@
--- `resolve_cache::find` meets its contract. The loop's invariant: the first slot from `i` on that keeps the subject is the first of all. Assumes nothing.
-use Prim.Native.Nat.{_+_, _*_, _-_, _≤_}
+-- `resolve_cache::find` meets its contract.
+-- The loop's invariant: the first slot from `i` on that keeps the subject is the first of all. Assumes nothing.
+use Prim.Native.Nat.{ℕ, _+_, _*_, _-_, _≤_}
 use native.Mathlib.Omega.{arith}
 use mathlib.Core.Path.{_≡_, sym, _∙_, ap}
+use mathlib.Core.List.{List}
 use lib.ListN.{length}
 use borrow.Author.Needs.{needs}
 use Rattle.resolve_cache.specs.Cache.{findFrom}
@@ -9,25 +11,26 @@ use Rattle.resolve_cache.proofs.Scans.{find-end, found-here, look-on, p
 use Rattle.resolve_cache.proofs.find.Statement.{statement}
 use Rattle.resolve_cache.proofs.find.Tie as tie
 
+abbrev Rest : List ℕ → List ℕ → ℕ → List ℕ → ℕ → Type 0
+Rest heads keys n subject i = findFrom heads keys subject i (n - i) ≡ findFrom heads keys subject 0 n
+
 abbrev Inv-loop : tie.InvT-loop
-Inv-loop heads keys n subject size₀ i₀ i = (i ≤ n) × (n ≤ 1024) × (3 * n ≤ length heads) × (256 * n ≤ length keys) × (findFrom heads keys subject i (n - i) ≡ findFrom heads keys subject 0 n)
+Inv-loop heads keys n subject size₀ i₀ i = (i ≤ n) × (n ≤ 1024) × (3 * n ≤ length heads) × (256 * n ≤ length keys) × Rest heads keys n subject i
 
 abbrev μ-loop : tie.MeasureT-loop
 μ-loop heads keys n subject size₀ i₀ i = n - i
-
-next-of-size-requires : tie.Need-next-of-size-requires Inv-loop μ-loop
-next-of-size-requires c κs = search needs
 
 loop-holds : tie.Need-loop-holds Inv-loop μ-loop
 loop-holds c =
     let s = c .before .before .before .before in
     let a = s .args in
-    let p = c .next-of-size .ensures in (
+    let p = c .next-of-size .ensures in
+    let x = findFrom (a .heads .now) (a .keys .now) (a .subject .now) 0 (a .n) in (
       p .inside,
       omega arith,
       omega arith,
       omega arith,
-      passed-over (a .heads .now) (a .keys .now) (a .subject .now) (a .n) (omega arith) (s .pre .1) 0 (c .next-of-size .result) (findFrom (a .heads .now) (a .keys .now) (a .subject .now) 0 (a .n)) p
+      passed-over (a .heads .now) (a .keys .now) (a .subject .now) (a .n) (omega arith) (s .pre .1) 0 (c .next-of-size .result) x p
           (ap (findFrom (a .heads .now) (a .keys .now) (a .subject .now) 0) (let e : a .n - 0 ≡ a .n = omega arith in e)),
     )
 
@@ -40,13 +43,8 @@ returns : tie.Need-returns Inv-loop μ-loop
 returns c =
     let a = c .before .before .before .before .before .before .before .before .args in
     let l = c .before .before .before .loop in
-    found-here (a .heads .now) (a .keys .now) (a .subject .now) (l .i) (a .n) (findFrom (a .heads .now) (a .keys .now) (a .subject .now) 0 (a .n)) (omega arith) (l .inv .4) (sym (c .before .keeps .ensures) ∙ c .if1 .taken)
-
-add-next-of-size : tie.Need-add-next-of-size Inv-loop μ-loop
-add-next-of-size c = search needs
-
-next-of-size-requires-2 : tie.Need-next-of-size-requires-2 Inv-loop μ-loop
-next-of-size-requires-2 c κs = search needs
+    let x = findFrom (a .heads .now) (a .keys .now) (a .subject .now) 0 (a .n) in
+    found-here (a .heads .now) (a .keys .now) (a .subject .now) (l .i) (a .n) x (omega arith) (l .inv .4) (sym (c .before .keeps .ensures) ∙ c .if1 .taken)
 
 loop-less : tie.Need-loop-less Inv-loop μ-loop
 loop-less c = omega (arith, c .next-of-size2 .ensures .forward)
@@ -63,7 +61,8 @@ loop-again c =
       omega arith,
       omega arith,
       passed-over (a .heads .now) (a .keys .now) (a .subject .now) (a .n) (omega arith) (s .pre .1) (l .i + 1) (c .next-of-size2 .result) x p
-          (look-on (a .heads .now) (a .keys .now) (a .subject .now) (l .i) (a .n) x (omega arith) (l .inv .4) (sym (c .before .before .keeps .ensures) ∙ c .before .if1 .left)),
+          (look-on (a .heads .now) (a .keys .now) (a .subject .now) (l .i) (a .n) x (omega arith) (l .inv .4)
+          (sym (c .before .before .keeps .ensures) ∙ c .before .if1 .left)),
     )
 
 returns-2 : tie.Need-returns-2 Inv-loop μ-loop
@@ -74,15 +73,5 @@ returns-2 c =
 pub find-spec : {M : Type 1} → statement M
 find-spec =
     tie.close
-    (tie.spec
-    Inv-loop
-    μ-loop
-    next-of-size-requires
-    loop-holds
-    keeps-requires
-    returns
-    add-next-of-size
-    next-of-size-requires-2
-    loop-less
-    loop-again
-    returns-2)
+    (tie.spec Inv-loop μ-loop (λ c κs. search needs) loop-holds keeps-requires returns (λ c. search needs)
+    (λ c κs. search needs) loop-less loop-again returns-2)

@@ -1,4 +1,5 @@
--- `resolve_cache::has_bad_slot_from` meets its contract. The loop's invariant: one of the slots from `i` on is bad exactly if one of all is. Assumes nothing.
+-- `resolve_cache::has_bad_slot_from` meets its contract. The loop's invariant: what is left from `i` on says what all says.
+-- Assumes nothing.
 use Prim.Native.Nat.{_+_, _*_, _-_, _≤_}
 use native.Mathlib.Omega.{arith}
 use mathlib.Core.Path.{_≡_, refl, sym, _∙_, ap}
@@ -25,13 +26,8 @@ returns : tie.Need-returns Inv-loop μ-loop
 returns c =
     let l = c .before .before .before in
     let a = l .before .before .args in
-    bad-slot (a .heads .now) (l .loop .i) (a .n) (badFrom (a .heads .now) (a .from) (a .n - a .from)) (omega arith) (l .loop .inv .3) (sym (c .before .slot-is-bad .ensures) ∙ c .if1 .taken)
-
-add-i : tie.Need-add-i Inv-loop μ-loop
-add-i c = search needs
-
-loop-less : tie.Need-loop-less Inv-loop μ-loop
-loop-less c = search needs
+    bad-slot (a .heads .now) (l .loop .i) (a .n) (badFrom (a .heads .now) (a .from) (a .n - a .from)) (omega arith)
+    (l .loop .inv .3) (sym (c .before .slot-is-bad .ensures) ∙ c .if1 .taken)
 
 loop-again : tie.Need-loop-again Inv-loop μ-loop
 loop-again c =
@@ -40,8 +36,8 @@ loop-again c =
       omega arith,
       omega arith,
       omega arith,
-      good-slot (a .heads .now) (l .loop .i) (a .n) (badFrom (a .heads .now) (a .from) (a .n - a .from)) (omega arith) (l .loop .inv .3) (sym (c .before .slot-is-bad .ensures) ∙ c .if1 .left)
-          (l .loop .i + 1) refl,
+      good-slot (a .heads .now) (l .loop .i) (a .n) (badFrom (a .heads .now) (a .from) (a .n - a .from)) (omega arith)
+          (l .loop .inv .3) (sym (c .before .slot-is-bad .ensures) ∙ c .if1 .left) (l .loop .i + 1) refl,
     )
 
 returns-2 : tie.Need-returns-2 Inv-loop μ-loop
@@ -50,4 +46,7 @@ returns-2 c =
     bad-end (a .heads .now) (c .before .loop .i) (a .n) (omega arith) (badFrom (a .heads .now) (a .from) (a .n - a .from)) (c .before .loop .inv .3)
 
 pub has-bad-slot-from-spec : {M : Type 1} → statement M
-has-bad-slot-from-spec = tie.close (tie.spec Inv-loop μ-loop loop-holds slot-is-bad-requires returns add-i loop-less loop-again returns-2)
+has-bad-slot-from-spec =
+    tie.close
+    (tie.spec Inv-loop μ-loop loop-holds slot-is-bad-requires returns (λ c. search needs) (λ c. search needs)
+    loop-again returns-2)

@@ -47,15 +47,5 @@ returns-2 c =
 pub keep-list-spec : {M : Type 1} → statement M
 keep-list-spec =
     tie.close
-    (tie.spec
-    (λ c κs. search needs)
-    (λ c κs. search needs)
-    returns
-    (λ c κs. search needs)
-    (λ c κs. search needs)
-    keep-requires
-    (λ c κs. search needs)
-    (λ c. search needs)
-    (λ c. search needs)
-    (λ c. search needs)
-    returns-2)
+    (tie.spec (λ c κs. search needs) (λ c κs. search needs) returns (λ c κs. search needs) (λ c κs. search needs)
+    keep-requires (λ c κs. search needs) (λ c. search needs) (λ c. search needs) (λ c. search needs) returns-2)

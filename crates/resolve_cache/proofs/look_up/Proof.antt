@@ -6,7 +6,6 @@ use mathlib.Core.Option.{some}
 use borrow.Author.Needs.{needs}
 use borrow.Author.Tests.{lt-ltb, le-ltb}
 use Rattle.resolve_cache.specs.declared.Slot.the-variants.{At}
-use Rattle.resolve_cache.specs.Area.{targetCount}
 use Rattle.resolve_cache.specs.Cache.{findFrom}
 use Rattle.resolve_cache.specs.Deciding.{slotOf, seen}
 use Rattle.resolve_cache.proofs.Slots.{find-sound}
@@ -19,37 +18,32 @@ found : (k : tie.After-find) (i : ℕ) → k .find .result ≡ At i
     findFrom (a .heads .now) (a .keys .now) (a .subject .now) 0 (a .n) ≡ some i
 found k i q = sym (k .find .ensures) ∙ ap slotOf q
 
-inside : (k : tie.After-find) (i : ℕ) → k .find .result ≡ At i → i < k .before .before .before .before .args .n
+inside : (k : tie.After-find) (i : ℕ) → k .find .result ≡ At i → let a = k .before .before .before .before .args in i < a .n
 inside k i q =
     let a = k .before .before .before .before .args in
     omega (arith, find-sound (a .heads .now) (a .keys .now) (a .subject .now) 0 (a .n) i (found k i q) .below)
 
-find-requires : tie.Need-find-requires
-find-requires c κs = search needs
-
-enum-told : tie.Need-enum-told
-enum-told c = search needs
-
-enum-known-slot : tie.Need-enum-known-slot
-enum-known-slot c = search needs
-
 mul-count : tie.Need-mul-count
-mul-count c = let i = inside (c .before .before .before) (c .before .slot .given .0 .0) (c .before .slot .given .1) in omega arith
+mul-count c = let s = c .before .slot .given in let i = inside (c .before .before .before) (s .0 .0) (s .1) in omega arith
 
 add-count : tie.Need-add-count
-add-count c = let i = inside (c .before .before .before) (c .before .slot .given .0 .0) (c .before .slot .given .1) in omega arith
+add-count c = let s = c .before .slot .given in let i = inside (c .before .before .before) (s .0 .0) (s .1) in omega arith
 
 mul-count-2 : tie.Need-mul-count-2
-mul-count-2 c = let i = inside (c .before .before .before) (c .before .slot .given .0 .0) (c .before .slot .given .1) in omega arith
+mul-count-2 c = let s = c .before .slot .given in let i = inside (c .before .before .before) (s .0 .0) (s .1) in omega arith
 
 shared-slice-read-count : tie.Need-shared-slice-read-count
-shared-slice-read-count c = let i = inside (c .before .before .before .before) (c .before .before .slot .given .0 .0) (c .before .before .slot .given .1) in omega arith
+shared-slice-read-count c =
+    let x = c .before .before in
+    let s = x .slot .given in
+    let i = inside (x .before .before) (s .0 .0) (s .1) in
+    omega arith
 
 returns : tie.Need-returns
 returns c =
-    let a = c .before .before .before .before .before .before .before .before .before .args in
-    let s = c .before .before .before .slot in
-    rw (found (c .before .before .before .before .before) (s .given .0 .0) (s .given .1), lt-ltb (a .room) (targetCount (a .heads .now) (s .given .0 .0)) (c .if1 .taken))
+    let x = c .before .before .before in
+    let s = x .slot .given in
+    rw (found (x .before .before) (s .0 .0) (s .1), lt-ltb _ _ (c .if1 .taken))
 
 returns-2 : tie.Need-returns-2
 returns-2 c =
@@ -58,21 +52,12 @@ returns-2 c =
 
 returns-3 : tie.Need-returns-3
 returns-3 c =
-    let a = c .before .before .before .before .before .before .before .before .before .args in
-    let s = c .before .before .before .slot in
-    rw (found (c .before .before .before .before .before) (s .given .0 .0) (s .given .1), le-ltb (a .room) (targetCount (a .heads .now) (s .given .0 .0)) (c .if1 .left))
+    let x = c .before .before .before in
+    let s = x .slot .given in
+    rw (found (x .before .before) (s .0 .0) (s .1), le-ltb _ _ (c .if1 .left))
 
 pub look-up-spec : {M : Type 1} → statement M
 look-up-spec =
     tie.close
-    (tie.spec
-    find-requires
-    enum-told
-    enum-known-slot
-    mul-count
-    add-count
-    mul-count-2
-    shared-slice-read-count
-    returns
-    returns-2
-    returns-3)
+    (tie.spec (λ c κs. search needs) (λ c. search needs) (λ c. search needs) mul-count add-count mul-count-2
+    shared-slice-read-count returns returns-2 returns-3)

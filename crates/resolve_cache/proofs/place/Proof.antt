@@ -12,9 +12,6 @@ returns c =
     let a = c .before .before .before .before .before .args in
     (rw (lt-ltb (a .cache .used) (a .cache .capacity) (c .if1 .taken)), c .if1 .taken)
 
-oldest-requires : tie.Need-oldest-requires
-oldest-requires c κs = search needs
-
 returns-2 : tie.Need-returns-2
 returns-2 c =
     let s = c .before .before .before .before .before .before in
@@ -24,4 +21,4 @@ returns-2 c =
     )
 
 pub place-spec : {M : Type 1} → statement M
-place-spec = tie.close (tie.spec returns oldest-requires returns-2)
+place-spec = tie.close (tie.spec returns (λ c κs. search needs) returns-2)

@@ -6,17 +6,8 @@ use Rattle.subject.proofs.Refusals.{refused-stands}
 use Rattle.resolve_cache.proofs.refused.Statement.{statement}
 use Rattle.resolve_cache.proofs.refused.Tie as tie
 
-enum-told : tie.Need-enum-told
-enum-told c = search needs
-
-enum-known-text : tie.Need-enum-known-text
-enum-known-text c = search needs
-
-returns : tie.Need-returns
-returns c = search needs
-
 returns-2 : tie.Need-returns-2
 returns-2 c = refused-stands (c .before .before .before .args .text) (c .before .text .given .0 .0) (answer 19 []) (c .before .text .given .1)
 
 pub refused-spec : {M : Type 1} → statement M
-refused-spec = tie.close (tie.spec enum-told enum-known-text returns returns-2)
+refused-spec = tie.close (tie.spec (λ c. search needs) (λ c. search needs) (λ c. search needs) returns-2)

@@ -6,9 +6,6 @@ use borrow.Author.Tests.{lt-ltb, le-ltb}
 use Rattle.resolve_cache.proofs.used_after.Statement.{statement}
 use Rattle.resolve_cache.proofs.used_after.Tie as tie
 
-add-result : tie.Need-add-result
-add-result c = search needs
-
 returns : tie.Need-returns
 returns c =
     let a = c .before .before .before .args in
@@ -20,4 +17,4 @@ returns-2 c =
     rw (le-ltb (a .cache .used) (a .cache .capacity) (c .if1 .left))
 
 pub used-after-spec : {M : Type 1} → statement M
-used-after-spec = tie.close (tie.spec add-result returns returns-2)
+used-after-spec = tie.close (tie.spec (λ c. search needs) returns returns-2)

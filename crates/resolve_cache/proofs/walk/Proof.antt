@@ -119,28 +119,8 @@ returns-4 c =
 pub walk-spec : {M : Type 1} → statement M
 walk-spec =
     tie.close
-    (tie.spec
-    (λ c κs. search needs)
-    (λ c κs. search needs)
-    (λ c κs. search needs)
-    (λ c. search needs)
-    (λ c κs. search needs)
-    (λ c. search needs)
-    (λ c κs. search needs)
-    (λ c. search needs)
-    (λ c κs. search needs)
-    (λ c. search needs)
-    slice-reshare-prefix-keep-list
-    slice-aggregate-keep-list
-    keep-list-requires
-    (λ c. search needs)
-    returns
-    (λ c. search needs)
-    returns-2
-    (λ c. search needs)
-    returns-3
-    (λ c. search needs)
-    (λ c. search needs)
-    (λ c. search needs)
-    (λ c. search needs)
-    returns-4)
+    (tie.spec (λ c κs. search needs) (λ c κs. search needs) (λ c κs. search needs) (λ c. search needs)
+    (λ c κs. search needs) (λ c. search needs) (λ c κs. search needs) (λ c. search needs) (λ c κs. search needs)
+    (λ c. search needs) slice-reshare-prefix-keep-list slice-aggregate-keep-list keep-list-requires
+    (λ c. search needs) returns (λ c. search needs) returns-2 (λ c. search needs) returns-3 (λ c. search needs)
+    (λ c. search needs) (λ c. search needs) (λ c. search needs) returns-4)

@@ -21,9 +21,6 @@ counted k = sym (k .before .counts-fit .ensures) ∙ not-false (k .before .count
 fits : (k : tie.Else1) → let a = k .before .before .before .before .before .args in Fit (a .table .nodes) (a .table .targets) (a .node-words .now) (a .target-words .now)
 fits k = let a = k .before .before .before .before .before .args in counts-fit (a .table .nodes) (a .table .targets) (a .node-words .now) (a .target-words .now) (counted k)
 
-counts-fit-requires : tie.Need-counts-fit-requires
-counts-fit-requires c κs = search needs
-
 returns : tie.Need-returns
 returns c = rw (sym (c .before .counts-fit .ensures) ∙ not-true (c .before .counts-fit .result) (c .if1 .taken))
 
@@ -53,9 +50,6 @@ copy-words-requires-2 c κs =
     let same = first .copy-words .kept .0 in
     (omega arith, omega arith)
 
-same-length : tie.Need-same-length
-same-length c = search needs
-
 returns-3 : tie.Need-returns-3
 returns-3 c =
     let second = c .before .before in
@@ -74,13 +68,5 @@ returns-3 c =
 pub copy-table-spec : {M : Type 1} → statement M
 copy-table-spec =
     tie.close
-    (tie.spec
-    counts-fit-requires
-    returns
-    mul-front
-    add-if2
-    returns-2
-    copy-words-requires
-    copy-words-requires-2
-    same-length
-    returns-3)
+    (tie.spec (λ c κs. search needs) returns mul-front add-if2 returns-2 copy-words-requires copy-words-requires-2
+    (λ c. search needs) returns-3)

@@ -4,17 +4,8 @@ use Rattle.subject.proofs.Refusals.{refused-stands}
 use Rattle.sublist_snapshot.proofs.refused_subject.Statement.{statement}
 use Rattle.sublist_snapshot.proofs.refused_subject.Tie as tie
 
-enum-told : tie.Need-enum-told
-enum-told c = search needs
-
-enum-known-text : tie.Need-enum-known-text
-enum-known-text c = search needs
-
-returns : tie.Need-returns
-returns c = search needs
-
 returns-2 : tie.Need-returns-2
 returns-2 c = refused-stands _ _ _ (c .before .text .given .1)
 
 pub refused-subject-spec : {M : Type 1} → statement M
-refused-subject-spec = tie.close (tie.spec enum-told enum-known-text returns returns-2)
+refused-subject-spec = tie.close (tie.spec (λ c. search needs) (λ c. search needs) (λ c. search needs) returns-2)

@@ -6,12 +6,6 @@ use Rattle.resolve_cache.specs.Cache.{withCapacity}
 use Rattle.resolve_cache.proofs.ResolveCache.with_capacity.Statement.{statement}
 use Rattle.resolve_cache.proofs.ResolveCache.with_capacity.Tie as tie
 
-at-least-one-requires : tie.Need-at-least-one-requires
-at-least-one-requires c κs = search needs
-
-is-short-requires : tie.Need-is-short-requires
-is-short-requires c κs = search needs
-
 returns : tie.Need-returns
 unfolding withCapacity
 returns c =
@@ -25,4 +19,4 @@ returns-2 c =
     rw (sym (c .before .before .at-least-one .ensures), sym (c .before .is-short .ensures), c .if1 .left)
 
 pub with-capacity-spec : {M : Type 1} → statement M
-with-capacity-spec = tie.close (tie.spec at-least-one-requires is-short-requires returns returns-2)
+with-capacity-spec = tie.close (tie.spec (λ c κs. search needs) (λ c κs. search needs) returns returns-2)

@@ -4,30 +4,12 @@ use Rattle.sublist_snapshot.proofs.Fronts.{match-refused, match-accepte
 use Rattle.sublist_snapshot.proofs.Snapshot.match_into.Statement.{statement}
 use Rattle.sublist_snapshot.proofs.Snapshot.match_into.Tie as tie
 
-parse-literal-requires : tie.Need-parse-literal-requires
-parse-literal-requires c κs = search needs
-
-enum-told : tie.Need-enum-told
-enum-told c = search needs
-
-enum-told-2 : tie.Need-enum-told-2
-enum-told-2 c = search needs
-
-refused-subject-requires : tie.Need-refused-subject-requires
-refused-subject-requires c κs = search needs
-
 returns : tie.Need-returns
 returns c =
     let k = c .before .before .before in
     let a = k .before .before .before .before .args in
     let t = k .parse-literal in
     match-refused (a .self) (a .area .now) (a .subject .now) (a .out .now) (t .result) (t .ensures) _ (c .before .enum-told2 .given .1) _ (c .refused-subject .ensures)
-
-match-parsed-requires : tie.Need-match-parsed-requires
-match-parsed-requires c κs = search needs
-
-same-length : tie.Need-same-length
-same-length c = search needs
 
 returns-2 : tie.Need-returns-2
 returns-2 c =
@@ -41,12 +23,5 @@ returns-2 c =
 pub match-into-spec : {M : Type 1} → statement M
 match-into-spec =
     tie.close
-    (tie.spec
-    parse-literal-requires
-    enum-told
-    enum-told-2
-    refused-subject-requires
-    returns
-    match-parsed-requires
-    same-length
-    returns-2)
+    (tie.spec (λ c κs. search needs) (λ c. search needs) (λ c. search needs) (λ c κs. search needs) returns
+    (λ c κs. search needs) (λ c. search needs) returns-2)

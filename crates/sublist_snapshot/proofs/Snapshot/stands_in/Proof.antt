@@ -16,16 +16,10 @@ returns-2 c =
     let a = c .before .before .before .before .args in
     rw (lt-ltb 0 (a .self .nodes) (omega arith), lt-leb (a .self .nodes * 16 + a .self .targets) (length (a .area .now)) (omega arith))
 
-mul-result : tie.Need-mul-result
-mul-result c = search needs
-
-sub-result : tie.Need-sub-result
-sub-result c = search needs
-
 returns-3 : tie.Need-returns-3
 returns-3 c =
     let a = c .before .before .before .before .before .before .args in
     rw (lt-ltb 0 (a .self .nodes) (omega arith)) (leb-left (a .self .nodes * 16) (a .self .targets) (length (a .area .now)) (omega arith))
 
 pub stands-in-spec : {M : Type 1} → statement M
-stands-in-spec = tie.close (tie.spec returns returns-2 mul-result sub-result returns-3)
+stands-in-spec = tie.close (tie.spec returns returns-2 (λ c. search needs) (λ c. search needs) returns-3)

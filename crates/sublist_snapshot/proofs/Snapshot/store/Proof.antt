@@ -19,35 +19,11 @@ told k m q =
     let a = k .before .before .before .before .before .args in
     stored-as (lentTable (a .table) (a .node-words .now) (a .target-words .now)) (a .area .now) (k .copy-table .last .1 .1 .1 .0) (k .copy-table .result) m q (k .copy-table .ensures) (a .self)
 
-copy-table-requires : tie.Need-copy-table-requires
-copy-table-requires c κs = search needs
-
-enum-told : tie.Need-enum-told
-enum-told c = search needs
-
-enum-told-2 : tie.Need-enum-told-2
-enum-told-2 c = search needs
-
-enum-told-3 : tie.Need-enum-told-3
-enum-told-3 c = search needs
-
-wrapping-add-u64-requires : tie.Need-wrapping-add-u64-requires
-wrapping-add-u64-requires c κs = search needs
-
-same-length : tie.Need-same-length
-same-length c = search needs
-
 returns : tie.Need-returns
 returns c = let k = c .before .before .before .before in told k Damaged (c .enum-told .given .1)
 
-same-length-2 : tie.Need-same-length-2
-same-length-2 c = search needs
-
 returns-2 : tie.Need-returns-2
 returns-2 c = let k = c .before .before .before .before in told k StoreFull (c .enum-told2 .given .1)
-
-same-length-3 : tie.Need-same-length-3
-same-length-3 c = search needs
 
 returns-3 : tie.Need-returns-3
 returns-3 c =
@@ -58,15 +34,5 @@ returns-3 c =
 pub store-spec : {M : Type 1} → statement M
 store-spec =
     tie.close
-    (tie.spec
-    copy-table-requires
-    enum-told
-    enum-told-2
-    enum-told-3
-    wrapping-add-u64-requires
-    same-length
-    returns
-    same-length-2
-    returns-2
-    same-length-3
-    returns-3)
+    (tie.spec (λ c κs. search needs) (λ c. search needs) (λ c. search needs) (λ c. search needs)
+    (λ c κs. search needs) (λ c. search needs) returns (λ c. search needs) returns-2 (λ c. search needs) returns-3)
