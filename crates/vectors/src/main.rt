@@ -1,13 +1,73 @@
-// Runs texts at the limits of the grammar, lists at the limit of a table's worst case, and the published vectors of 64-bit FNV-1a, and says of each what
-// came out and whether that is right. The vectors are those of the FNV reference code by Fowler, Noll and Vo.
+// Runs texts at the limits of the grammar, lists at the limit of a table's worst case, and the published vectors of 64-bit
+// FNV-1a, and says of each what came out and whether that is right. The vectors are those of the FNV reference code by
+// Fowler, Noll and Vo.
 use router_c::CAnswer;
-use router_c::router_build;
-use router_c::router_insert;
-use router_c::router_parse;
-use router_c::router_parse_literal;
-use router_c::router_token_hash;
-ghost use Prim.Native.Nat.{_≤_};
-ghost use lib.ListN.{length};
+
+// ---- The areas: room for the 1,024 runs of ten tokens and two entries more, and for the 2,049 nodes of their table.
+
+const TOKENS: usize = 10;
+
+const RUN_BYTES: usize = 19;
+
+const RUNS: usize = 1024;
+
+const RUN_NUMBERS: usize = RUNS * 3;
+
+const ENTRIES: usize = RUNS + 2;
+
+const ENTRY_NUMBERS: usize = ENTRIES * 3;
+
+const STORE_BYTES: usize = RUNS * RUN_BYTES + 42;
+
+const NODE_WORDS: usize = 2049 * 16;
+
+type Run = [u8; RUN_BYTES];
+
+type Words = [usize; ENTRY_NUMBERS];
+
+type Store = [u8; STORE_BYTES];
+
+type Nodes = [u32; NODE_WORDS];
+
+type Targets = [u32; ENTRIES];
+
+// ---- The C calls, each in one function.
+
+fn parse_literal(text: &[u8]) -> CAnswer {
+    router_c::router_parse_literal(text)
+}
+
+fn parse(text: &[u8]) -> CAnswer {
+    router_c::router_parse(text)
+}
+
+fn token_hash(token: &[u8]) -> u64 {
+    router_c::router_token_hash(token)
+}
+
+// The list is what the insert before it left: entries and bytes in use.
+fn insert(
+    before: CAnswer,
+    words: &mut Words,
+    store: &mut Store,
+    pattern: &[u8],
+    target: u32,
+) -> CAnswer {
+    router_c::router_insert(
+        before.first as usize,
+        before.second as usize,
+        words,
+        store,
+        pattern,
+        target,
+    )
+}
+
+fn build(entries: &[usize], store: &Store, nodes: &mut Nodes, targets: &mut Targets) -> CAnswer {
+    router_c::router_build(entries, store, nodes, targets, 0)
+}
+
+// ---- What is said.
 
 fn say(text: &[u8]) {
     io::write_all(1, text);
@@ -51,7 +111,7 @@ fn row(name: &[u8], got: CAnswer, number: u64, first: u64, second: u64) {
 
 // One line for a hash.
 fn hash_row(text: &[u8], right: u64) {
-    let got = router_token_hash(text);
+    let got = token_hash(text);
     say(b"hash of \"");
     say(text);
     say(b"\": ");
@@ -59,42 +119,26 @@ fn hash_row(text: &[u8], right: u64) {
     say_whether(got == right);
 }
 
-fn limits() {
+// ---- The rows.
+
+fn depths() {
     let most = b"a.a.a.a.a.a.a.a.a.a.a.a.a.a.a.a.a.a.a.a.a.a.a.a.a.a.a.a.a.a.a.a";
-    row(
-        b"32 tokens, a subject:",
-        router_parse_literal(most),
-        0,
-        32,
-        0,
-    );
-    row(b"32 tokens, a pattern:", router_parse(most), 0, 32, 0);
+    row(b"32 tokens, a subject:", parse_literal(most), 0, 32, 0);
+    row(b"32 tokens, a pattern:", parse(most), 0, 32, 0);
     let deep = b"a.a.a.a.a.a.a.a.a.a.a.a.a.a.a.a.a.a.a.a.a.a.a.a.a.a.a.a.a.a.a.a.a";
-    row(
-        b"33 tokens, a subject:",
-        router_parse_literal(deep),
-        5,
-        33,
-        0,
-    );
-    row(b"33 tokens, a pattern:", router_parse(deep), 5, 33, 0);
+    row(b"33 tokens, a subject:", parse_literal(deep), 5, 33, 0);
+    row(b"33 tokens, a pattern:", parse(deep), 5, 33, 0);
     let tail = b"a.a.a.a.a.a.a.a.a.a.a.a.a.a.a.a.a.a.a.a.a.a.a.a.a.a.a.a.a.a.a.>.a";
-    row(b"> as 32nd of 33, a pattern:", router_parse(tail), 4, 31, 0);
+    row(b"> as 32nd of 33, a pattern:", parse(tail), 4, 31, 0);
 }
 
 fn characters() {
-    row(
-        b"bytes 61 C0 80:",
-        router_parse_literal(b"a\xc0\x80"),
-        2,
-        1,
-        0,
-    );
-    row(b"bytes C2 80:", router_parse_literal(b"\xc2\x80"), 0, 1, 0);
-    row(b"byte 7F:", router_parse_literal(b"\x7f"), 8, 0x7f, 0);
+    row(b"bytes 61 C0 80:", parse_literal(b"a\xc0\x80"), 2, 1, 0);
+    row(b"bytes C2 80:", parse_literal(b"\xc2\x80"), 0, 1, 0);
+    row(b"byte 7F:", parse_literal(b"\x7f"), 8, 0x7f, 0);
 }
 
-fn hashes() {
+fn short_hashes() {
     hash_row(b"", 0xcbf29ce484222325);
     hash_row(b"a", 0xaf63dc4c8601ec8c);
     hash_row(b"b", 0xaf63df4c8601f1a5);
@@ -102,11 +146,17 @@ fn hashes() {
     hash_row(b"d", 0xaf63d94c8601e773);
     hash_row(b"e", 0xaf63d84c8601e5c0);
     hash_row(b"f", 0xaf63db4c8601ead9);
+}
+
+fn hashes_of_foobar() {
     hash_row(b"fo", 0x08985907b541d342);
     hash_row(b"foo", 0xdcb27518fed9d577);
     hash_row(b"foob", 0xdd120e790c2512af);
     hash_row(b"fooba", 0xcac165afa2fef40a);
     hash_row(b"foobar", 0x85944171f73967e8);
+}
+
+fn hashes_of_chongo() {
     hash_row(b"ch", 0x08a25607b54a22ae);
     hash_row(b"cho", 0xf5faf0190cf90df3);
     hash_row(b"chon", 0xf27397910b3221c7);
@@ -119,54 +169,62 @@ fn token(star: bool) -> u8 {
 }
 
 // Writes the run of ten tokens out of `a` and `*` whose stars are the bits of a number, between the dots of a text.
-fn put_run(text: &mut [u8], number: usize)
-    requires { ⌜ 19 ≤ length (now text) ⌝ }
-{
+fn put_run(run: &mut Run, number: u32) {
     let mut rest = number;
     let mut i = 0;
-    while i < 10 {
-        text[i * 2] = token(rest % 2 == 1);
+    while i < TOKENS {
+        run[i * 2] = token(rest % 2 == 1);
         rest = rest / 2;
         i += 1;
     }
 }
 
-// Inserts all 1,024 runs into an empty list; the last answer.
-fn insert_runs(text: &mut [u8], words: &mut [usize], store: &mut [u8]) -> CAnswer
-    requires { ⌜ 19 ≤ length (now text) ⌝ }
-{
-    put_run(text, 0);
-    let mut last = router_insert(0, 0, words, store, text, 0);
-    let mut number: usize = 1;
-    while number < 1024 {
-        put_run(text, number);
-        let entries = last.first as usize;
-        let used = last.second as usize;
-        last = router_insert(entries, used, words, store, text, number as u32);
+// Inserts the run of a number, with the number as target.
+fn insert_run(
+    before: CAnswer,
+    run: &mut Run,
+    words: &mut Words,
+    store: &mut Store,
+    number: u32,
+) -> CAnswer {
+    put_run(run, number);
+    insert(before, words, store, run, number)
+}
+
+// Inserts so many runs into an empty list; the last answer.
+fn insert_runs(runs: u32, run: &mut Run, words: &mut Words, store: &mut Store) -> CAnswer {
+    let mut last = CAnswer {
+        number: 0,
+        first: 0,
+        second: 0,
+        third: 0,
+    };
+    let mut number = 0;
+    while number < runs {
+        last = insert_run(last, run, words, store, number);
         number += 1;
     }
     last
 }
 
-// The all-star run, followed by `.a` and by `.*`.
-fn insert_two_more(words: &mut [usize], store: &mut [u8]) -> CAnswer {
-    let one = router_insert(1024, 19456, words, store, b"*.*.*.*.*.*.*.*.*.*.a", 1024);
-    let entries = one.first as usize;
-    let used = one.second as usize;
-    router_insert(entries, used, words, store, b"*.*.*.*.*.*.*.*.*.*.*", 1025)
+// The first so many numbers, or none if they are not all there.
+fn first_numbers(numbers: &[usize], count: usize) -> &[usize] {
+    if numbers.len() < count {
+        return &numbers[..0];
+    }
+    let from: usize = 0;
+    &numbers[from..count]
 }
 
-// All runs of ten tokens out of `a` and `*`: accepted.
+// All runs of ten tokens out of `a` and `*`: accepted. The list.
 fn accepted_rows(
-    text: &mut [u8],
-    words: &mut [usize],
-    store: &mut [u8],
-    nodes: &mut [u32],
-    targets: &mut [u32],
-)
-    requires { ⌜ (19 ≤ length (now text)) × (3072 ≤ length (now words)) ⌝ }
-{
-    let all = insert_runs(text, words, store);
+    run: &mut Run,
+    words: &mut Words,
+    store: &mut Store,
+    nodes: &mut Nodes,
+    targets: &mut Targets,
+) -> CAnswer {
+    let all = insert_runs(1024, run, words, store);
     row(
         b"the 1,024 runs of ten tokens, inserted:",
         all,
@@ -174,21 +232,29 @@ fn accepted_rows(
         1024,
         19456,
     );
-    let table = router_build(&words[..3072], store, nodes, targets, 0);
+    let table = build(first_numbers(words, RUN_NUMBERS), store, nodes, targets);
     row(b"their table, nodes and worst case:", table, 0, 2047, 1024);
+    all
 }
 
-// With two more: refused.
-fn refused_rows(words: &mut [usize], store: &mut [u8], nodes: &mut [u32], targets: &mut [u32]) {
-    let all = insert_two_more(words, store);
+// With the all-star run followed by `.a` and by `.*`: refused.
+fn refused_rows(
+    all: CAnswer,
+    words: &mut Words,
+    store: &mut Store,
+    nodes: &mut Nodes,
+    targets: &mut Targets,
+) {
+    let one = insert(all, words, store, b"*.*.*.*.*.*.*.*.*.*.a", 1024);
+    let two = insert(one, words, store, b"*.*.*.*.*.*.*.*.*.*.*", 1025);
     row(
         b"the all-star run with .a and with .*, inserted:",
-        all,
+        two,
         0,
         1026,
         19498,
     );
-    let table = router_build(words, store, nodes, targets, 0);
+    let table = build(words, store, nodes, targets);
     row(
         b"the table with these, worst case and limit:",
         table,
@@ -200,18 +266,20 @@ fn refused_rows(words: &mut [usize], store: &mut [u8], nodes: &mut [u32], target
 
 // The areas for the rows of runs.
 fn runs() {
-    let mut text = [b'.'; 19];
-    let mut words = [0usize; 3078];
-    let mut store = [0u8; 19498];
-    let mut nodes = [0u32; 32784];
-    let mut targets = [0u32; 1026];
-    accepted_rows(&mut text, &mut words, &mut store, &mut nodes, &mut targets);
-    refused_rows(&mut words, &mut store, &mut nodes, &mut targets);
+    let mut run = [b'.'; RUN_BYTES];
+    let mut words = [0usize; ENTRY_NUMBERS];
+    let mut store = [0u8; STORE_BYTES];
+    let mut nodes = [0u32; NODE_WORDS];
+    let mut targets = [0u32; ENTRIES];
+    let all = accepted_rows(&mut run, &mut words, &mut store, &mut nodes, &mut targets);
+    refused_rows(all, &mut words, &mut store, &mut nodes, &mut targets);
 }
 
 fn main() {
-    limits();
+    depths();
     characters();
     runs();
-    hashes();
+    short_hashes();
+    hashes_of_foobar();
+    hashes_of_chongo();
 }
