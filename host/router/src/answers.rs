@@ -20,6 +20,12 @@ pub fn accepted(answer: Answer) -> Result<[u64; 3], Refusal> {
     values(answer.number, [answer.first, answer.second, answer.third])
 }
 
+/// The values of a resolve, or the refusal.
+pub fn resolved_values(resolved: &Resolved) -> Result<[u64; 3], Refusal> {
+    let told = [resolved.first, resolved.second, resolved.third];
+    values(resolved.number, told)
+}
+
 /// The first `length` places, or all if there are fewer.
 pub fn front(list: &[u32], length: u64) -> &[u32] {
     list.get(..size(length)).unwrap_or(list)

@@ -1,6 +1,6 @@
 //! The calls on areas of bytes, lowest byte of a number first, for a host that keeps its areas so. Whole words count; places and lengths count words.
 //! The areas of one call may have 65,536 bytes together, the keys of a cache not counted; a call lent more is refused as 99, before any other check.
-use crate::answers::{accepted, cache_after, part, size, values};
+use crate::answers::{accepted, cache_after, part, resolved_values, size};
 use crate::raw::{self, CacheState, SnapshotState};
 use crate::Refusal;
 
@@ -122,8 +122,7 @@ impl<'a> ResolveCacheBytes<'a> {
             out,
         );
         self.state = cache_after(&resolved);
-        let told = [resolved.first, resolved.second, resolved.third];
-        let [lies, start, length] = values(resolved.number, told)?;
+        let [lies, start, length] = resolved_values(&resolved)?;
         Ok(match lies {
             0 => (Targets::part(self.kept, start, length), true),
             _ => (Targets::part(out, start, length), false),

@@ -1,5 +1,5 @@
 //! The cache of resolved subjects, over lent areas.
-use crate::answers::{cache_after, part, size, values};
+use crate::answers::{cache_after, part, resolved_values, size, values};
 use crate::limits::DEFAULT_CAPACITY;
 use crate::raw::{self, CacheState, Resolved};
 use crate::{Refusal, Snapshot};
@@ -157,9 +157,6 @@ impl<'a> ResolveCache<'a> {
     /// Takes over the state that a resolve leaves; its values, or the refusal.
     fn settle(&mut self, resolved: &Resolved) -> Result<[u64; 3], Refusal> {
         self.state = cache_after(resolved);
-        values(
-            resolved.number,
-            [resolved.first, resolved.second, resolved.third],
-        )
+        resolved_values(resolved)
     }
 }
