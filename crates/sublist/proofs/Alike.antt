@@ -10,9 +10,8 @@ use Rattle.subject.specs.Text.{isStar, isTail, same}
 use Rattle.subject.specs.Reading.{tokensFrom}
 use Rattle.subject.specs.Fnv.{fnv}
 use Rattle.subject.proofs.Positions.{tokens-start}
-use Rattle.sublist_tree.specs.Tree.{Key, star, lit, Line, line, onto, lineOf, keyIs}
+use Rattle.sublist_tree.specs.Tree.{Key, star, lit, Line, line, onto, lineOf, keyIs, keysOf}
 use Rattle.sublist_tree.proofs.Bytes.{same-sound}
-use Rattle.sublist_trie.specs.Trie.{keysOf}
 use Rattle.sublist_area.specs.Words.{tokenKey}
 use Rattle.sublist.specs.Sharing.{shared, keysIn, sameKey, sharedBy}
 

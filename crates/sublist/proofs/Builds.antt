@@ -14,9 +14,9 @@ use Rattle.subject.specs.Answers.{Answer, answer, unless}
 use Rattle.subject.specs.Grammar.{grammar, firstOf}
 use Rattle.sublist_tree.specs.Lists.{All}
 use Rattle.sublist_tree.specs.Table.{Accepted}
-use Rattle.sublist_trie.specs.Trie.{Trie, size, built}
+use Rattle.sublist_trie.proofs.Trie.{Trie, size, built}
 use Rattle.sublist_trie.proofs.Runs.{size-pos}
-use Rattle.sublist_trie.specs.Ends.{endsOf}
+use Rattle.sublist_trie.proofs.Ends.{endsOf}
 use Rattle.sublist_area.specs.Words.{word}
 use Rattle.sublist_area.specs.Growing.{planted}
 use Rattle.sublist_area.proofs.Stores.{planted-behind}

@@ -19,8 +19,8 @@ use Rattle.sublist_tree.specs.Table.{Accepted}
 use Rattle.sublist_tree.proofs.Fork.{Within, worst-length}
 use Rattle.sublist_tree.proofs.Route.{root-within}
 use Rattle.sublist_tree.proofs.Bytes.{eqb-sound, eqb-whole}
-use Rattle.sublist_trie.specs.Trie.{Trie, root, grow, size, child, insT, builtFrom, built}
-use Rattle.sublist_trie.specs.Ends.{endsOf}
+use Rattle.sublist_trie.proofs.Trie.{Trie, root, grow, size, child, insT, builtFrom, built}
+use Rattle.sublist_trie.proofs.Ends.{endsOf}
 use Rattle.sublist_trie.proofs.Children.{built-for}
 use Rattle.sublist_trie.proofs.Runs.{size-pos}
 use Rattle.sublist_trie.proofs.Sizes.{size-nodes}

@@ -11,10 +11,10 @@ use lib.ListN.{length, getD, length-append}
 use lib.Seq.{getD-set-other}
 use Rattle.subject.specs.Choice.{pick}
 use Rattle.sublist_tree.specs.Lists.{All}
-use Rattle.sublist_tree.specs.Tree.{Key, Line, line}
+use Rattle.sublist_tree.specs.Tree.{Key, Line, line, keysOf}
 use Rattle.sublist_tree.proofs.Bytes.{eqb-sound, eqb-whole}
-use Rattle.sublist_trie.specs.Trie.{Trie, size, insT, keysOf, builtFrom, Good}
-use Rattle.sublist_trie.specs.Ends.{LineEnd, lineEnd, endsFrom}
+use Rattle.sublist_trie.proofs.Trie.{Trie, size, insT, builtFrom, Good}
+use Rattle.sublist_trie.proofs.Ends.{LineEnd, lineEnd, endsFrom}
 use Rattle.sublist_trie.proofs.Runs.{size-pos}
 use Rattle.sublist_trie.proofs.Growth.{run-ins}
 use Rattle.sublist_area.specs.declared.Placed.{Placed}

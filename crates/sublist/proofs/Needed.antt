@@ -9,12 +9,11 @@ use lib.Dec.{leb, leb·suc-suc, leb·suc-zero, leb·zero}
 use lib.ListN.{length, length-map, length-append}
 use Rattle.subject.specs.Choice.{pick, and, or}
 use Rattle.sublist_tree.specs.Lists.{largest, filter, without, distinct, prefixes, All}
-use Rattle.sublist_tree.specs.Tree.{Key, star, lit, Line, line, keyIs, runIs}
+use Rattle.sublist_tree.specs.Tree.{Key, star, lit, Line, line, keyIs, runIs, keysOf}
 use Rattle.sublist_tree.specs.Nodes.{runs, nodes}
 use Rattle.sublist_tree.proofs.Order.{and-false, filter-filter}
 use Rattle.sublist_tree.proofs.Bytes.{All-map}
 use Rattle.sublist_tree.proofs.Counting.{filter-append, filter-all, filter-map, distinct-map}
-use Rattle.sublist_trie.specs.Trie.{keysOf}
 use Rattle.sublist.specs.Sharing.{shared}
 
 neither : (a b : Bool) → and (not b) (not a) ≡ not (or a b)

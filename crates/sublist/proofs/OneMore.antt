@@ -12,14 +12,13 @@ use Rattle.subject.specs.Text.{tokens, isTail}
 use Rattle.subject.specs.Fnv.{fnv}
 use Rattle.subject.proofs.Depths.{accepted-depth}
 use Rattle.sublist_tree.specs.Lists.{largest}
-use Rattle.sublist_tree.specs.Tree.{Line, line, onto, lineOf}
+use Rattle.sublist_tree.specs.Tree.{Line, line, onto, lineOf, keysOf}
 use Rattle.sublist_tree.specs.Nodes.{nodes}
 use Rattle.sublist_tree.proofs.Sorting.{map-append}
 use Rattle.sublist_tree.proofs.Bytes.{eqb-whole}
 use Rattle.sublist_entries.specs.declared.Entry.{Entry}
 use Rattle.sublist_entries.specs.Entries.{textOf, linesOf, targetWord}
 use Rattle.sublist.specs.Building.{badEntries, needed}
-use Rattle.sublist_trie.specs.Trie.{keysOf}
 use Rattle.sublist_area.specs.Words.{tokenKey}
 use Rattle.sublist.specs.Sharing.{EntryWithin, shared, keysIn, sharedBy, longest}
 use Rattle.sublist_entries.specs.Numbers.{unflat}

@@ -9,11 +9,11 @@ use lib.Dec.{eqb, ltb}
 use lib.ListN.{length, set, length-set}
 use borrow.Author.Tests.{lt-ltb, eq-eqb, ne-eqb, eqb-true, eqb-false}
 use Rattle.subject.specs.Choice.{pick}
-use Rattle.sublist_tree.specs.Tree.{Line, star, worst}
+use Rattle.sublist_tree.specs.Tree.{Line, star, worst, leftAt}
 use Rattle.sublist_tree.proofs.Fork.{Within}
 use Rattle.sublist_tree.proofs.Bytes.{eqb-sound, eqb-whole}
-use Rattle.sublist_trie.specs.Trie.{Trie, size, parentOf, child, built, leftAt, run}
-use Rattle.sublist_trie.specs.Pass.{Told, valueOf, put, tell}
+use Rattle.sublist_trie.proofs.Trie.{Trie, size, parentOf, child, built, run}
+use Rattle.sublist_trie.proofs.Pass.{Told, valueOf, put, tell}
 use Rattle.sublist_trie.proofs.Children.{built-for}
 use Rattle.sublist_trie.proofs.Runs.{child-of}
 use Rattle.sublist_trie.proofs.Growth.{good-built}

@@ -9,12 +9,12 @@ use lib.Dec.{eqb}
 use lib.ListN.{length, getD, length-map}
 use Rattle.subject.specs.Choice.{pick, and}
 use Rattle.sublist_tree.specs.Lists.{All}
-use Rattle.sublist_tree.specs.Tree.{Key, star, lit, Line, line, below, ends, worst, targetOf}
+use Rattle.sublist_tree.specs.Tree.{Key, star, lit, Line, line, below, ends, worst, targetOf, leftAt}
 use Rattle.sublist_tree.proofs.Fork.{Within}
 use Rattle.sublist_tree.proofs.Bytes.{eqb-sound, eqb-whole}
-use Rattle.sublist_trie.specs.Trie.{Trie, root, size, run, parentOf, child, insT, built, leftAt}
-use Rattle.sublist_trie.specs.Ends.{LineEnd, lineEnd, endsFrom, endsOf, targetsAt}
-use Rattle.sublist_trie.specs.Pass.{untold}
+use Rattle.sublist_trie.proofs.Trie.{Trie, root, size, run, parentOf, child, insT, built}
+use Rattle.sublist_trie.proofs.Ends.{LineEnd, lineEnd, endsFrom, endsOf, targetsAt}
+use Rattle.sublist_trie.proofs.Pass.{untold}
 use Rattle.sublist_trie.proofs.Children.{built-for}
 use Rattle.sublist_trie.proofs.Runs.{size-pos, run-root, run-child, child-less}
 use Rattle.sublist_trie.proofs.Growth.{good-built}

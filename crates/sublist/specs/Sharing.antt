@@ -8,8 +8,7 @@ use Rattle.subject.specs.Choice.{pick, and, or}
 use Rattle.subject.specs.Text.{tokens, isTail}
 use Rattle.subject.specs.Fnv.{fnv}
 use Rattle.sublist_tree.specs.Lists.{largest}
-use Rattle.sublist_tree.specs.Tree.{Key, lineOf, keyIs}
-use Rattle.sublist_trie.specs.Trie.{keysOf}
+use Rattle.sublist_tree.specs.Tree.{Key, lineOf, keyIs, keysOf}
 use Rattle.sublist_area.specs.Words.{tokenKey}
 use Rattle.sublist_entries.specs.declared.Entry.{Entry}
 use Rattle.sublist_entries.specs.Entries.{textOf}

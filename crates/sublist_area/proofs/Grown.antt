@@ -11,7 +11,7 @@ use lib.Dec.{eqb}
 use lib.ListN.{length, getD}
 use borrow.Author.Tests.{eq-eqb, ne-eqb}
 use Rattle.sublist_tree.specs.Tree.{Key}
-use Rattle.sublist_trie.specs.Trie.{Trie, grow, size, child, insT}
+use Rattle.sublist_trie.proofs.Trie.{Trie, grow, size, child, insT}
 use Rattle.sublist_trie.proofs.Runs.{pick-ind, child-less}
 use Rattle.sublist_area.specs.declared.Placed.{Placed}
 use Rattle.sublist_area.specs.declared.Placed.the-variants.{At, Full}

@@ -10,7 +10,7 @@ use lib.ListN.{length, set}
 use borrow.Author.Tests.{eqb-true, eq-eqb, ne-eqb}
 use Rattle.subject.specs.Choice.{and}
 use Rattle.sublist_tree.specs.Tree.{Key, star, lit}
-use Rattle.sublist_trie.specs.Trie.{Trie, root, size, child, insT}
+use Rattle.sublist_trie.proofs.Trie.{Trie, root, size, child, insT}
 use Rattle.sublist_area.specs.declared.Child.the-variants.{Node, Missing}
 use Rattle.sublist_area.specs.declared.Placed.{Placed}
 use Rattle.sublist_area.specs.declared.Placed.the-variants.{At, Full, Broken}

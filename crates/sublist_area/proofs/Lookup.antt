@@ -10,7 +10,7 @@ use mathlib.Core.List.{List}
 use lib.ListN.{length, getD}
 use borrow.Author.Tests.{eq-eqb, ne-eqb}
 use Rattle.sublist_tree.specs.Tree.{Key, star, lit}
-use Rattle.sublist_trie.specs.Trie.{Trie, size, child}
+use Rattle.sublist_trie.proofs.Trie.{Trie, size, child}
 use Rattle.sublist_trie.proofs.Runs.{child-less}
 use Rattle.sublist_area.specs.declared.Child.the-variants.{Node, Missing}
 use Rattle.sublist_area.specs.Words.{Met, told, word, seek, starChild}

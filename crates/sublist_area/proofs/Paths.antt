@@ -9,7 +9,7 @@ use lib.Dec.{eqb}
 use borrow.Author.Tests.{eqb-true}
 use Rattle.sublist_tree.specs.Tree.{Key, star, lit, keyIs}
 use Rattle.sublist_tree.proofs.Order.{keyIs-sound}
-use Rattle.sublist_trie.specs.Trie.{Trie, root, grow, size, child, Good}
+use Rattle.sublist_trie.proofs.Trie.{Trie, root, grow, size, child, Good}
 use Rattle.sublist_trie.proofs.Runs.{pick-ind, size-pos, child-less, child-new, child-kept}
 use Rattle.sublist_area.proofs.Places.{place, rest, link, keyAt, spot, spot-on, spot-off, link-new, link-old, link-less, key-new, key-old, Alike, sited, shared, place-free}
 

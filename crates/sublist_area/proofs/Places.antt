@@ -9,7 +9,7 @@ use lib.Dec.{eqb}
 use borrow.Author.Tests.{eq-eqb, ne-eqb}
 use Rattle.subject.specs.Choice.{pick}
 use Rattle.sublist_tree.specs.Tree.{Key, star, lit, keyIs}
-use Rattle.sublist_trie.specs.Trie.{Trie, root, grow, size, parentOf, child, Good}
+use Rattle.sublist_trie.proofs.Trie.{Trie, root, grow, size, parentOf, child, Good}
 use Rattle.sublist_trie.proofs.Runs.{pick-ind, size-pos, parent-new, parent-old, child-new}
 use Rattle.sublist_area.specs.Growing.{hashOf}
 use Rattle.sublist_area.proofs.AnyKeys.{hashed}

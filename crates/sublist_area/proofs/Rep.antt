@@ -9,7 +9,7 @@ use lib.Dec.{eqb}
 use lib.ListN.{length, getD}
 use Rattle.subject.specs.Choice.{pick}
 use Rattle.sublist_tree.specs.Tree.{Key, lit}
-use Rattle.sublist_trie.specs.Trie.{Trie, size, parentOf, child, Good}
+use Rattle.sublist_trie.proofs.Trie.{Trie, size, parentOf, child, Good}
 use Rattle.sublist_area.specs.declared.Child.{Child}
 use Rattle.sublist_area.specs.declared.Child.the-variants.{Node, Missing}
 use Rattle.sublist_area.specs.Words.{Met, told, word}

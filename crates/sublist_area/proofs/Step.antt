@@ -9,7 +9,7 @@ use mathlib.Core.List.{List}
 use lib.ListN.{length, getD, set, length-set}
 use lib.Seq.{getD-set-other}
 use Rattle.sublist_tree.specs.Tree.{Key, lit}
-use Rattle.sublist_trie.specs.Trie.{Trie, root, grow, size, parentOf, child, Good}
+use Rattle.sublist_trie.proofs.Trie.{Trie, root, grow, size, parentOf, child, Good}
 use Rattle.sublist_trie.proofs.Runs.{parent-new, parent-old}
 use Rattle.sublist_area.specs.Words.{Met, word}
 use Rattle.sublist_area.specs.Growing.{fresh, hashOf, added, planted}

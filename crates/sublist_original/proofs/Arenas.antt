@@ -13,8 +13,8 @@ use Rattle.subject.specs.Choice.{and}
 use Rattle.sublist_tree.specs.Tree.{Key, star, lit}
 use Rattle.sublist_tree.proofs.Sorting.{pick-push}
 use Rattle.sublist_tree.proofs.Order.{and-false}
-use Rattle.sublist_trie.specs.Trie.{Trie, root, grow, size, child}
-use Rattle.sublist_trie.specs.Ends.{LineEnd, lineEnd, targetsAt}
+use Rattle.sublist_trie.proofs.Trie.{Trie, root, grow, size, child}
+use Rattle.sublist_trie.proofs.Ends.{LineEnd, lineEnd, targetsAt}
 use Rattle.sublist_original.specs.Original.{Outcome, Ok, NodeScratch, new-scratch, Arena, root-alone, push, push-literal, set-star, new-node, descend-literal, descend-star, push-terminal, push-gt-terminal}
 use Rattle.sublist_original.proofs.Indexing.{index-in, change-in, push-default, push-length, u32-in}
 use Rattle.sublist_original.proofs.Scratches.{optional-some, Nodes, find-child, grown, nodes-literal, nodes-star, nodes-root}

@@ -15,12 +15,12 @@ use Rattle.subject.specs.Original as subject
 use Rattle.subject.specs.Original.{if_then_else_, equal, WILDCARD-ONE, WILDCARD-TAIL, validate}
 use Rattle.subject.proofs.SameGrammar.{split-tokens, depth-original, depth-bounded}
 use Rattle.sublist_tree.specs.Lists.{All}
-use Rattle.sublist_tree.specs.Tree.{Key, star, lit, Line, line, onto, targetOf, lineOf}
+use Rattle.sublist_tree.specs.Tree.{Key, star, lit, Line, line, onto, targetOf, lineOf, keysOf}
 use Rattle.sublist_tree.specs.Table.{TableEntry, entryLine, rootOf}
 use Rattle.sublist_tree.proofs.Fork.{depthOf, Within}
 use Rattle.sublist_tree.proofs.Bytes.{eqb-sound, eqb-whole}
-use Rattle.sublist_trie.specs.Trie.{Trie, root, grow, size, child, Good, keysOf, insT, builtFrom, built}
-use Rattle.sublist_trie.specs.Ends.{LineEnd, lineEnd, endsFrom, endsOf}
+use Rattle.sublist_trie.proofs.Trie.{Trie, root, grow, size, child, Good, insT, builtFrom, built}
+use Rattle.sublist_trie.proofs.Ends.{LineEnd, lineEnd, endsFrom, endsOf}
 use Rattle.sublist_trie.proofs.Runs.{size-pos, child-less}
 use Rattle.sublist_trie.proofs.Growth.{run-ins}
 use Rattle.sublist_original.specs.Original.{Outcome, Ok, _>>=_, Arena, root-alone, push-gt-terminal, each-token, each-entry}

@@ -32,8 +32,8 @@ use Rattle.sublist_tree.specs.Table.{TableEntry, rootOf, entryLine}
 use Rattle.sublist_tree.proofs.Fork.{worst-length}
 use Rattle.sublist_tree.proofs.Bytes.{eqb-sound, eqb-whole}
 use Rattle.sublist_tree.proofs.Hash.{hash-due}
-use Rattle.sublist_trie.specs.Trie.{size, run, built}
-use Rattle.sublist_trie.specs.Ends.{endsOf, endIn}
+use Rattle.sublist_trie.proofs.Trie.{size, run, built}
+use Rattle.sublist_trie.proofs.Ends.{endsOf, endIn}
 use Rattle.sublist_trie.proofs.Children.{built-for}
 use Rattle.sublist_tree.proofs.Members.{Distinct}
 use Rattle.sublist_trie.proofs.Sizes.{size-nodes}

@@ -16,7 +16,7 @@ use Rattle.sublist_tree.specs.Lists.{All}
 use Rattle.sublist_tree.specs.Tree.{Key, star, lit, keyIs}
 use Rattle.sublist_tree.proofs.Sorting.{map-append, All-append}
 use Rattle.sublist_tree.proofs.Bytes.{eqb-sound, eqb-whole}
-use Rattle.sublist_trie.specs.Trie.{Trie, root, grow, size, child, Good}
+use Rattle.sublist_trie.proofs.Trie.{Trie, root, grow, size, child, Good}
 use Rattle.sublist_tree.proofs.Members.{In, Distinct, All-in, in-left, in-right, in-append}
 use Rattle.sublist_trie.proofs.Runs.{size-pos, child-new, child-kept}
 use Rattle.sublist_original.specs.Original.{Literal, find, NodeScratch, new-scratch, push, push-literal, set-star}

@@ -7,8 +7,8 @@ use lib.Dec.{eqb}
 use lib.ListN.{length, getD}
 use Rattle.sublist_tree.specs.Tree.{star, lit, Line, ends}
 use Rattle.sublist_tree.proofs.Bytes.{eqb-sound, eqb-whole}
-use Rattle.sublist_trie.specs.Trie.{size, child, built}
-use Rattle.sublist_trie.specs.Ends.{endsOf}
+use Rattle.sublist_trie.proofs.Trie.{size, child, built}
+use Rattle.sublist_trie.proofs.Ends.{endsOf}
 use Rattle.sublist_trie.proofs.Children.{built-for}
 use Rattle.sublist_tree.proofs.Members.{In, Distinct}
 use Rattle.sublist_trie.proofs.For.{leftOf}

@@ -17,7 +17,7 @@ use Rattle.sublist_tree.specs.Lists.{All, concat}
 use Rattle.sublist_tree.specs.Tree.{star, lit, Line, ends, walk, worst}
 use Rattle.sublist_tree.proofs.Fork.{Within, peak-worst}
 use Rattle.sublist_tree.proofs.Bytes.{eqb-sound, eqb-whole}
-use Rattle.sublist_trie.specs.Trie.{size, child, built, keep, front}
+use Rattle.sublist_trie.proofs.Trie.{size, child, built, keep, front}
 use Rattle.sublist_trie.proofs.Children.{built-for}
 use Rattle.sublist_tree.proofs.Members.{Distinct}
 use Rattle.sublist_trie.proofs.Growth.{good-built}

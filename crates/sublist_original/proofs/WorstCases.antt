@@ -15,7 +15,7 @@ use Rattle.sublist_tree.specs.Lists.{largest}
 use Rattle.sublist_tree.specs.Tree.{Key, star, lit, Line, ifAny, below, heads, worst}
 use Rattle.sublist_tree.proofs.Fork.{Within, worst-fuel}
 use Rattle.sublist_tree.proofs.Bytes.{eqb-sound, eqb-whole}
-use Rattle.sublist_trie.specs.Trie.{size, run, child, built}
+use Rattle.sublist_trie.proofs.Trie.{size, run, child, built}
 use Rattle.sublist_trie.proofs.Children.{built-for}
 use Rattle.sublist_tree.proofs.Members.{In}
 use Rattle.sublist_trie.proofs.Runs.{size-pos, child-less, child-parent}

@@ -9,8 +9,7 @@ use lib.ListN.{length, take, getD}
 use lib.Seq.{getD-take, length-take-le, take-take}
 use borrow.Author.Tests.{leb-false, lt-leb, le-ltb}
 use Rattle.subject.specs.Choice.{pick}
-use Rattle.sublist_tree.specs.Tree.{Key, star, lit, Line, ends}
-use Rattle.sublist_trie.specs.Trie.{leftAt}
+use Rattle.sublist_tree.specs.Tree.{Key, star, lit, Line, ends, leftAt}
 use Rattle.sublist_area.specs.declared.Child.the-variants.{Node, Missing, Damaged}
 use Rattle.sublist_area.specs.Words.{Met, met, told, word, hashIs, byHash, outside, seek, literalChild, starChild, childOf}
 use Rattle.sublist_walk.specs.Walk.{part}

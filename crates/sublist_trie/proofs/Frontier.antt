@@ -8,8 +8,8 @@ use mathlib.Core.List.{List, [], _∷_, _++_, map}
 use lib.ListN.{length, length-map}
 use borrow.Author.Tests.{eq-eqb, ne-eqb}
 use Rattle.sublist_tree.specs.Lists.{All}
-use Rattle.sublist_tree.specs.Tree.{Key, star, lit, Line, present, below, step, peak}
-use Rattle.sublist_trie.specs.Trie.{Trie, size, run, parentOf, child, Good, leftAt, keep, front}
+use Rattle.sublist_tree.specs.Tree.{Key, star, lit, Line, present, below, step, peak, leftAt}
+use Rattle.sublist_trie.proofs.Trie.{Trie, size, run, parentOf, child, Good, keep, front}
 use Rattle.sublist_trie.proofs.Runs.{size-pos, snoc-inj, run-root, child-less, child-parent, run-child}
 use Rattle.sublist_tree.proofs.Members.{Distinct, All-into}
 use Rattle.sublist_trie.proofs.For.{For, leftOf, child-none, child-some}

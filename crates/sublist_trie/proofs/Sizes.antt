@@ -8,11 +8,11 @@ use mathlib.Core.Bool.{Bool, true}
 use mathlib.Core.List.{List, [], _∷_, _++_, map}
 use lib.ListN.{length}
 use Rattle.sublist_tree.specs.Lists.{prefixes}
-use Rattle.sublist_tree.specs.Tree.{Key, Line, line, count, runIs}
+use Rattle.sublist_tree.specs.Tree.{Key, Line, line, count, runIs, leftAt}
 use Rattle.sublist_tree.specs.Nodes.{runs, nodes}
 use Rattle.sublist_tree.proofs.Fork.{Within}
 use Rattle.sublist_tree.proofs.Counting.{runIs-sound, count-nodes}
-use Rattle.sublist_trie.specs.Trie.{Trie, size, run, Good, leftAt}
+use Rattle.sublist_trie.proofs.Trie.{Trie, size, run, Good}
 use Rattle.sublist_tree.proofs.Members.{In, Distinct, All-in, in-left, in-right, in-append, distinct-in, in-distinct, distinct-once, as-many}
 use Rattle.sublist_trie.proofs.Runs.{keyIs-same, size-pos, run-root, run-inj}
 use Rattle.sublist_trie.proofs.Left.{cons-nil, nil-left, nil-right, some-part, left-cons, left-none, left-own, left-begins}

@@ -9,8 +9,7 @@ use lib.ListN.{length, length-append, length-map}
 use borrow.Author.Tests.{lt-ltb, le-leb, eqb-true}
 use Rattle.subject.specs.Choice.{pick, or}
 use Rattle.sublist_tree.specs.Lists.{concat, All}
-use Rattle.sublist_tree.specs.Tree.{Key, star, lit, Line, below, ends, present, step, walk, peak}
-use Rattle.sublist_trie.specs.Trie.{leftAt}
+use Rattle.sublist_tree.specs.Tree.{Key, star, lit, Line, below, ends, present, step, walk, peak, leftAt}
 use Rattle.sublist_area.specs.declared.Child.{Child}
 use Rattle.sublist_area.specs.declared.Child.the-variants.{Node, Missing, Damaged}
 use Rattle.sublist_area.specs.Words.{word, childOf}

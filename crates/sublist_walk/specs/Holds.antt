@@ -5,8 +5,7 @@ use mathlib.Core.Bool.{Bool, true, false}
 use mathlib.Core.List.{List, [], _∷_, _++_}
 use lib.Dec.{eqb}
 use lib.ListN.{length}
-use Rattle.sublist_tree.specs.Tree.{Key, star, lit, Line, below, ends}
-use Rattle.sublist_trie.specs.Trie.{leftAt}
+use Rattle.sublist_tree.specs.Tree.{Key, star, lit, Line, below, ends, leftAt}
 use Rattle.sublist_area.specs.declared.Child.{Child}
 use Rattle.sublist_area.specs.declared.Child.the-variants.{Node, Missing, Damaged}
 use Rattle.sublist_area.specs.Words.{word, childOf}
