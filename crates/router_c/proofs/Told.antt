@@ -1,0 +1,67 @@
+-- What a call answered and left, as the C call says it.
+use mathlib.Core.Path.{_≡_, refl, subst}
+use mathlib.Core.List.{List}
+use Prim.Native.Nat.{ℕ}
+use Rattle.subject.specs.Answers.{Answer}
+use Rattle.sublist_entries.specs.declared.Inserted.{Inserted}
+use Rattle.sublist_entries.specs.Inserting.{InsertOutcome}
+use Rattle.sublist_entries.specs.Answers.{insertAnswer, inserted}
+use Rattle.sublist.specs.declared.Built.{Built}
+use Rattle.sublist.specs.Leaving.{BuildOutcome}
+use Rattle.sublist.specs.Answers.{buildAnswer, built}
+use Rattle.sublist_snapshot.specs.declared.Snapshot.{Snapshot}
+use Rattle.sublist_snapshot.specs.declared.MadeSnapshot.{MadeSnapshot}
+use Rattle.sublist_snapshot.specs.declared.Stored.{Stored as StoreReturned}
+use Rattle.sublist_snapshot.specs.Snapshot.{Made, Stored}
+use Rattle.sublist_snapshot.specs.Answers.{madeAnswer, storeAnswer, made, left as leftStored}
+use Rattle.resolve_cache.specs.declared.ResolveCache.{ResolveCache}
+use Rattle.resolve_cache.specs.declared.Resolved.{Resolved as Returned}
+use Rattle.resolve_cache.specs.Area.{Area}
+use Rattle.resolve_cache.specs.Cache.{Resolved}
+use Rattle.resolve_cache.specs.Answers.{resolveAnswer, left}
+use Rattle.binding.specs.declared.SingleHome.{SingleHome}
+use Rattle.binding.specs.declared.CachedResolution.{CachedResolution}
+use Rattle.binding.specs.Verdict.{Homed, CachedHomed}
+use Rattle.binding.specs.Answers.{homeAnswer, cachedAnswer, homed, cachedHomed}
+use Rattle.router_words.specs.declared.CAnswer.{CAnswer}
+use Rattle.router_words.specs.declared.CMadeSnapshot.{CMadeSnapshot}
+use Rattle.router_words.specs.declared.CStored.{CStored}
+use Rattle.router_words.specs.declared.CMadeCache.{CMadeCache}
+use Rattle.router_words.specs.declared.CResolved.{CResolved}
+use Rattle.router_words.specs.declared.CVerdict.{CVerdict}
+use Rattle.router_words.specs.Words.{numberOf, valueOf, Says, Inserts, Builds, SaysMade, Makes, SaysMadeCache, snapshotIn, Stores, answerIn, cacheIn, Resolves, judgedAnswer, SaysVerdict, Judges, JudgesCached}
+
+pub told-insert : {r : CAnswer} {list store : List ℕ} (i : Inserted) {o : InsertOutcome (List ℕ)} → Says r (insertAnswer i) → inserted i list store ≡ o → Inserts r list store o
+told-insert {r} {list} {store} i p e = subst (λ (x : InsertOutcome (List ℕ)). Inserts r list store x) e (record { says = p; list-is = refl; store-is = refl })
+
+pub told-build : {r : CAnswer} {nodes targets : List ℕ} (b : Built) {o : BuildOutcome} → Says r (buildAnswer b) → built b nodes targets ≡ o → Builds r nodes targets o
+told-build {r} {nodes} {targets} b p e = subst (λ (x : BuildOutcome). Builds r nodes targets x) e (record { says = p; areas-are = refl })
+
+pub told-made : {r : CMadeSnapshot} {area : List ℕ} (m : MadeSnapshot) {x : Made} → SaysMade r (madeAnswer m) → made m area ≡ x → Makes r area x
+told-made {r} {area} m p e = subst (λ (y : Made). Makes r area y) e (record { says = p; area-is = refl })
+
+pub told-stored : {r : CStored} {area : List ℕ} (s : StoreReturned) {x : Stored} → (r .number ≡ numberOf (storeAnswer (s .answer))) × (r .stamped ≡ valueOf (storeAnswer (s .answer)) 0) × (snapshotIn r ≡ s .snapshot) → leftStored s area ≡ x → Stores r area x
+told-stored {r} {area} s p e = subst (λ (y : Stored). Stores r area y) e (record { number = p .0; stamped = p .1; snapshot-is = p .2; area-is = refl })
+
+pub told-resolved : {w : CResolved} {a : Area} {out : List ℕ} (r : Returned) {x : Resolved} → Says (answerIn w) (resolveAnswer (r .answer)) × (cacheIn w ≡ r .cache) → left r a out ≡ x → Resolves w a out x
+told-resolved {w} {a} {out} r p e = subst (λ (y : Resolved). Resolves w a out y) e (record { says = p .0; cache-is = p .1; area-is = refl; out-is = refl })
+
+pub told-home : {r : CVerdict} {out : List ℕ} (h : SingleHome) {x : Homed} → SaysVerdict r (judgedAnswer (homeAnswer h)) → homed h out ≡ x → Judges r out x
+told-home {r} {out} h p e = subst (λ (y : Homed). Judges r out y) e (record { says = p; out-is = refl })
+
+pub told-cached : {w : CResolved} {a : Area} {out : List ℕ} (h : CachedResolution) {x : CachedHomed} → Says (answerIn w) (judgedAnswer (cachedAnswer (h .answer))) × (cacheIn w ≡ h .cache) → cachedHomed h a out ≡ x → JudgesCached w a out x
+told-cached {w} {a} {out} h p e = subst (λ (y : CachedHomed). JudgesCached w a out y) e (record { says = p .0; cache-is = p .1; area-is = refl; out-is = refl })
+
+-- the same of equal answers and outcomes
+pub same-answer : {r : CAnswer} {a b : Answer} → a ≡ b → Says r a → Says r b
+same-answer {r} e p = subst (λ (x : Answer). Says r x) e p
+
+pub same-made : {r : CMadeCache} {a b : Answer} → a ≡ b → SaysMadeCache r a → SaysMadeCache r b
+same-made {r} e p = subst (λ (x : Answer). SaysMadeCache r x) e p
+
+pub same-resolved : {w : CResolved} {a : Area} {out : List ℕ} {x y : Resolved} → x ≡ y → Resolves w a out x → Resolves w a out y
+same-resolved {w} {a} {out} e p = subst (λ (z : Resolved). Resolves w a out z) e p
+
+-- the same of equal states
+pub same-states : {A : Type 0} (f : ResolveCache → Snapshot → A) {c c′ : ResolveCache} {s s′ : Snapshot} → c ≡ c′ → s ≡ s′ → f c s ≡ f c′ s′
+same-states f e g = rw (e, g)

@@ -1,0 +1,41 @@
+-- Laws of what the C structs say: of equal structs, of a refusal that another one holds or that stands for a verdict, and of outcomes.
+use mathlib.Core.Path.{_≡_, refl, sym, subst}
+use mathlib.Core.List.{List}
+use Prim.Native.Nat.{ℕ}
+use Rattle.subject.specs.declared.SubjectError.{SubjectError}
+use Rattle.subject.specs.declared.SubjectError.the-variants.{TooLong, NotUtf8, Empty, TailWildcardNotLast, TooDeep, EmptyToken, WildcardNotAllowed, ControlChar, IllegalChar}
+use Rattle.subject.specs.Answers.{Answer, answer, refusal}
+use Rattle.sublist.specs.Building.{held}
+use Rattle.sublist_walk.specs.Matching.{Outcome, outcome}
+use Rattle.resolve_cache.specs.declared.ResolveCache.{ResolveCache}
+use Rattle.router_words.specs.declared.CAnswer.{CAnswer}
+use Rattle.router_words.specs.declared.CResolved.{CResolved}
+use Rattle.router_words.specs.Words.{numberOf, valueOf, Says, Matches, answerIn, cacheIn}
+
+-- an equal struct says the same
+pub says-as : {r s : CAnswer} {a : Answer} → r ≡ s → Says s a → Says r a
+says-as {r} {s} {a} e p = subst (λ (x : CAnswer). Says x a) (sym e) p
+
+-- and with a cache behind it
+pub with-cache-says : {w : CResolved} {r : CAnswer} {a : Answer} {c : ResolveCache} → (answerIn w ≡ r) × (cacheIn w ≡ c) → Says r a → Says (answerIn w) a × (cacheIn w ≡ c)
+with-cache-says e p = (says-as (e .0) p, e .1)
+
+-- an answer that is held: 13, its number, its values
+pub held-value : (a : Answer) → (valueOf (held a) 0 ≡ numberOf a) × (valueOf (held a) 1 ≡ valueOf a 0) × (valueOf (held a) 2 ≡ valueOf a 1) × (numberOf (held a) ≡ 13)
+held-value (answer number values) = (refl, refl, refl, refl)
+
+-- a refusal has at most two values
+pub two-values : (e : SubjectError) → (valueOf (refusal e) 2 ≡ 0) × (valueOf (refusal e) 3 ≡ 0)
+two-values TooLong = (refl, refl)
+two-values (NotUtf8 i) = (refl, refl)
+two-values Empty = (refl, refl)
+two-values (TailWildcardNotLast i) = (refl, refl)
+two-values (TooDeep d) = (refl, refl)
+two-values (EmptyToken i) = (refl, refl)
+two-values (WildcardNotAllowed ch i) = (refl, refl)
+two-values (ControlChar ch i) = (refl, refl)
+two-values (IllegalChar ch i) = (refl, refl)
+
+-- the answer of a match, with the output that it leaves
+pub told-match : {r : CAnswer} {out : List ℕ} {a : Answer} {o : Outcome} → Says r a → outcome a out ≡ o → Matches r out o
+told-match {r} {out} {a} p e = subst (λ (x : Outcome). Matches r out x) e (p, refl)

@@ -1,0 +1,2 @@
+-- Laws of answers in words, and of what a call answered and left.
+pub mod Answering
