@@ -4,6 +4,7 @@ pub mod Pushes
 pub mod Levels
 pub mod Lending
 pub mod Visits
+pub mod Fronts
 pub mod Walks
 pub mod Narrow
 pub mod Writing

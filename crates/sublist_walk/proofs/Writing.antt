@@ -23,7 +23,7 @@ use Rattle.subject.specs.declared.Parsed.the-variants.{Accepted, Refused}
 use Rattle.sublist_walk.specs.Walk.{part, Walked, found, failed, walkOver}
 use Rattle.subject.proofs.Refusals.{refused-stands}
 use Rattle.sublist_walk.specs.Matching.{Outcome, outcome, matchAnswer, over, countsFit, written, ifSubject, matchTable, matchParsed}
-use Rattle.sublist_walk.specs.Told.{walkOf, Finds, Ends, Holding, Wrote, tried, Tries}
+use Rattle.sublist_walk.specs.Told.{walkOf, Finds, Ends, Holding, Wrote, tried, Tries, settled}
 use Rattle.sublist_walk.specs.declared.TableMatch.{TableMatch}
 use Rattle.sublist_walk.specs.declared.TableMatch.the-variants as match
 use Rattle.sublist_walk.specs.declared.Tried.{Tried}
@@ -101,19 +101,19 @@ module _ (k : ℕ) (small : 32 ≤ k) (n m : ℕ) (a ts subject out : List ℕ) 
       let u : Tries (try.Answered r) out now (walkOf 32 n m a ts subject) = (rw e at v) in
       u .1 ∙ ap (λ w. written w out) (sym (narrow 32 k small a n m ts (map fnv (tokens subject)) (u .0)))
 
-  module _ (e : t ≡ try.Wide) (t2 : Tried) (after : List ℕ) (v2 : Tries t2 now after (walkOf k n m a ts subject)) where
-    still : now ≡ out
-    still = let u : Tries try.Wide out now (walkOf 32 n m a ts subject) = (rw e at v) in u .1
+  -- the second match finds the output as it was
+  pub wide-answers : t ≡ try.Wide → (x : Outcome) → x ≡ written (walkOf k n m a ts subject) now → x ≡ written (walkOf k n m a ts subject) out
+  wide-answers e x s =
+      let u : Tries try.Wide out now (walkOf 32 n m a ts subject) = (rw e at v) in
+      s ∙ ap (written (walkOf k n m a ts subject)) (u .1)
 
-    pub wide-answers : (r : TableMatch) → t2 ≡ try.Answered r → outcome (matchAnswer r) after ≡ written (walkOf k n m a ts subject) out
-    wide-answers r e2 =
-        let u : Tries (try.Answered r) now after (walkOf k n m a ts subject) = (rw e2 at v2) in
-        u .1 ∙ ap (written (walkOf k n m a ts subject)) still
-
-    pub wide-19 : t2 ≡ try.Wide → outcome (answer 19 []) after ≡ written (walkOf k n m a ts subject) out
-    wide-19 e2 =
-        let u : Tries try.Wide now after (walkOf k n m a ts subject) = (rw e2 at v2) in
-        rw (u .0, u .1, still)
+-- no wider limit is left
+pub settles : (t : Tried) (out after : List ℕ) (w : Walked) → Tries t out after w → (r : TableMatch) → r ≡ settled t → outcome (matchAnswer r) after ≡ written w out
+settles t out after w v r q = rw q (go t v)
+  where
+    go : (x : Tried) → Tries x out after w → outcome (matchAnswer (settled x)) after ≡ written w out
+    go (try.Answered y) u = u .1
+    go try.Wide u = rw (u .0, u .1)
 
 -- the counts
 module _ (n m : ℕ) (a ts : List ℕ) where

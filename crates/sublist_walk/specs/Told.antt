@@ -1,4 +1,4 @@
--- Only private contracts cite this file: what the answers of the walk's steps tell of the levels and walks of Walk.antt.
+-- Only private contracts cite this file: what the answers of the walk's steps tell of the levels and walks of Walk.antt
 use Prim.Native.Nat.{ℕ, _+_, _*_, _≤_}
 use mathlib.Core.Path.{_≡_}
 use mathlib.Core.Logic.{_⊎_}
@@ -11,6 +11,7 @@ use Rattle.sublist_area.specs.declared.Child.{Child}
 use Rattle.sublist_area.specs.declared.Child.the-variants as child
 use Rattle.sublist_walk.specs.declared.Failure.{Failure}
 use Rattle.sublist_walk.specs.declared.Failure.the-variants as failure
+use Rattle.sublist_walk.specs.declared.TableMatch.{TableMatch}
 use Rattle.sublist_walk.specs.declared.TableMatch.the-variants as match
 use Rattle.sublist_walk.specs.declared.Tried.{Tried}
 use Rattle.sublist_walk.specs.declared.Tried.the-variants as try
@@ -49,8 +50,8 @@ within (front.Failed why) k = Unit {0}
 abbrev pub Turn : ℕ → ℕ → Type 0
 Turn from k = (from ≡ 0) ⊎ (from ≡ k)
 
--- the level s has the frontier `next` and a list. Behind the `at` targets before it the list makes `size`, at most 2^32 more for each node read,
--- and the output, `out` before and `after` now, holds it from place `at` on, as far as that goes.
+-- the level s has the frontier `next` and a list. Behind the `at` targets before it the list makes `size`, at most 2^32 more
+-- for each node read, and the output, `out` before and `after` now, holds it from place `at` on, as far as that goes.
 pub record Listed (s : Level) (next : List ℕ) (at size nodes : ℕ) (out after : List ℕ) : Type 0 where
   pub list : List ℕ
   pub is : s ≡ level next list
@@ -66,7 +67,8 @@ abbrev pub Reaches : Step → List ℕ → List ℕ → List ℕ → ℕ → ℕ
 Reaches (step.On n size) to out after at nodes s = (n ≤ length to) × Listed s (take n to) at size nodes out after
 Reaches (step.Failed why) to out after at nodes s = s ≡ broken why
 
--- the walk w ends with this peak and a list of `size` targets, which the output holds from the first place on, as far as that goes
+-- the walk w ends with this peak and a list of `size` targets, which the output holds from the first place on,
+-- as far as that goes
 pub record Finds (w : Walked) (size peak : ℕ) (out after : List ℕ) : Type 0 where
   pub list : List ℕ
   pub is : w ≡ found list peak
@@ -84,7 +86,8 @@ finished collected.Damaged peak = walked.Failed failure.Damaged
 
 -- the list that the walk w finds has `count` targets, and `list` begins with it if it has room for it
 abbrev pub Holding : Walked → ℕ → List ℕ → Type 0
-Holding w count list = (l : List ℕ) (peak : ℕ) → w ≡ found l peak → (count ≡ length l) × (count ≤ length list → take count list ≡ l)
+Holding w count list =
+    (l : List ℕ) (peak : ℕ) → w ≡ found l peak → (count ≡ length l) × (count ≤ length list → take count list ≡ l)
 
 -- the output holds the list that the walk w finds from the first place on, as far as that goes
 abbrev pub Wrote : Walked → List ℕ → List ℕ → Type 0
@@ -95,7 +98,13 @@ abbrev pub tried : Failure → Tried
 tried failure.Wide = try.Wide
 tried failure.Damaged = try.Answered match.Damaged
 
--- what a match within a limit says, where its walk is w: the match's answer; or that a frontier would pass the limit, and the output is as it was
+-- what a match within a limit says, where its walk is w: the match's answer; or that a frontier would pass the limit,
+-- and the output is as it was
 abbrev pub Tries : Tried → List ℕ → List ℕ → Walked → Type 0
 Tries (try.Answered r) out after w = (w ≡ failed failure.Wide → ⊥) × (outcome (matchAnswer r) after ≡ written w out)
 Tries try.Wide out after w = (w ≡ failed failure.Wide) × (after ≡ out)
+
+-- the same where no wider limit is left: 19
+abbrev pub settled : Tried → TableMatch
+settled (try.Answered r) = r
+settled try.Wide = match.Damaged

@@ -1,4 +1,5 @@
--- The walk of a subject's hashes over a table: n nodes in the words a, m targets in the words ts. Every area has one outcome.
+-- The walk of a subject's hashes over a table: n nodes in the words a, m targets in the words ts.
+-- Every area has one outcome.
 use Prim.Native.Nat.{ℕ, zero, suc, _+_, max}
 use mathlib.Core.Bool.{Bool, true, false}
 use mathlib.Core.List.{List, [], _∷_, _++_}
@@ -20,7 +21,8 @@ abbrev pub among : ℕ → List ℕ → Bool
 among j [] = false
 among j (i ∷ is) = or (eqb j i) (among j is)
 
--- a level half done: the next frontier and the list so far; or why the walk fails there: a frontier would pass its limit, or a number points outside
+-- a level half done: the next frontier and the list so far; or why the walk fails there: a frontier would pass its limit,
+-- or a number points outside
 pub data Level : Type 0 where
   level : List ℕ → List ℕ → Level
   broken : Failure → Level
@@ -42,7 +44,9 @@ pub data Walked : Type 0 where
 -- the targets that the words f and f + 1 of node i say, start and count
 unfoldable pub collect : List ℕ → ℕ → List ℕ → ℕ → ℕ → Level → Level
 collect a m ts f i (level next list) =
-    pick (leb (word a i f + word a i (f + 1)) m) (level next (list ++ part ts (word a i f) (word a i (f + 1)))) (broken failure.Damaged)
+    pick (leb (word a i f + word a i (f + 1)) m)
+    (level next (list ++ part ts (word a i f) (word a i (f + 1))))
+    (broken failure.Damaged)
 collect a m ts f i (broken why) = broken why
 
 -- a child joins the next frontier, behind those there, unless it is there; `limit` nodes at the most

@@ -8,8 +8,8 @@ ghost use Rattle.subject.specs.Answers.{answer, parsed, whenAccepted};
 ghost use Rattle.sublist_walk.specs.Walk.{part, among, level, collect, push, pushes, children};
 ghost use Rattle.sublist_walk.specs.Walk.{visit, visits, exact};
 ghost use Rattle.sublist_walk.specs.Matching.{outcome, matchAnswer, countsFit, written, matchParsed, matchTable};
-ghost use Rattle.sublist_walk.specs.Told.{walkOf, missed, fronted, within, finished, tried, Turn, Lists, Reaches, Ends};
-ghost use Rattle.sublist_walk.specs.Told.{Holding, Wrote, Tries};
+ghost use Rattle.sublist_walk.specs.Told.{walkOf, missed, fronted, within, finished, tried, settled};
+ghost use Rattle.sublist_walk.specs.Told.{Turn, Lists, Reaches, Ends, Holding, Wrote, Tries};
 use subject::MAX_TEXT;
 use subject::Parsed;
 use subject::SubjectError;
@@ -101,7 +101,8 @@ fn word_at(words: &[u32], at: usize) -> usize
     0
 }
 
-// Whether a node stands among the first n of a frontier. All n are read: a loop with one way out compares several at once.
+// Whether a node stands among the first n of a frontier.
+// All n are read: a loop with one way out compares several at once.
 fn stands(front: &[u32], n: usize, id: u32) -> bool
     requires { ⌜ n ≤ length (now front) ⌝ }
     ensures { λ r. ⌜ r ≡ among id (take n (now (front .entry))) ⌝ }
@@ -132,7 +133,8 @@ fn without_node(child: Child, n: usize) -> Front
 fn push_child(front: &mut [u32], n: usize, child: Child) -> Front
     requires { ⌜ n ≤ length (now front) ⌝ }
     ensures { λ r. ⌜
-        (fronted r (now (front .exit)) ≡ push (length (now (front .entry))) (level (take n (now (front .entry))) []) child)
+        (fronted r (now (front .exit))
+        ≡ push (length (now (front .entry))) (level (take n (now (front .entry))) []) child)
         × within r (length (now (front .entry))) ⌝ }
 {
     let Child::Node(id) = child else {
@@ -272,8 +274,8 @@ fn visit_front(
     ensures { λ r. ⌜
         Reaches r (part (now (both .exit)) (length (now (both .entry)) / 2 - from) (length (now (both .entry)) / 2))
         (now (out .entry)) (now (out .exit)) at n
-        (visits (length (now (both .entry)) / 2) (now («node_words» .entry)) nodes targets (now («target_words» .entry)) hash
-        (level [] []) (part (now (both .entry)) from n)) ⌝ }
+        (visits (length (now (both .entry)) / 2) (now («node_words» .entry)) nodes targets (now («target_words» .entry))
+        hash (level [] []) (part (now (both .entry)) from n)) ⌝ }
 {
     let limit = both.len() / 2;
     let start = limit - from;
@@ -327,7 +329,8 @@ fn collect_exact(
         × (at < 2 ^ 62) ⌝ }
     ensures { λ r. ⌜
         Lists r (now (out .entry)) (now (out .exit)) at n
-        (exact 0 (now («node_words» .entry)) 0 targets (now («target_words» .entry)) (level [] []) (take n (now (from .entry)))) ⌝ }
+        (exact 0 (now («node_words» .entry)) 0 targets (now («target_words» .entry)) (level [] [])
+        (take n (now (from .entry)))) ⌝ }
 {
     let mut i = 0;
     let mut size = at;
@@ -420,7 +423,8 @@ fn walk(
     Walked::Found { length: size, peak }
 }
 
-// The list of a walk, of `count` targets, goes to the output: from `list`, to which the walk wrote as much as that holds, or by a second walk.
+// The list of a walk, of `count` targets, goes to the output: from `list`, to which the walk wrote as much as that holds,
+// or by a second walk.
 fn write_list(
     nodes: usize,
     targets: usize,
@@ -440,7 +444,8 @@ fn write_list(
         × Holding (walkOf (length (now both) / 2) nodes targets (now «node_words») (now «target_words») (now subject))
         count (now list) ⌝ }
     ensures { λ _. ⌜
-        Wrote (walkOf (length (now (both .entry)) / 2) nodes targets (now («node_words» .entry)) (now («target_words» .entry))
+        Wrote
+        (walkOf (length (now (both .entry)) / 2) nodes targets (now («node_words» .entry)) (now («target_words» .entry))
         (now (subject .entry))) (now (out .entry)) (now (out .exit)) ⌝ }
 {
     if count <= list.len() {
@@ -544,38 +549,18 @@ fn match_narrow(
     )
 }
 
-// The two widest frontiers and room for a long list.
-fn match_wide(
-    nodes: usize,
-    targets: usize,
-    node_words: &[u32],
-    target_words: &[u32],
-    subject: &[u8],
-    out: &mut [u32],
-) -> Tried
-    requires { ⌜
-        (targets ≤ length (now «target_words»))
-        × (length (now subject) ≤ 4096) ⌝ }
-    ensures { λ r. ⌜
-        Tries r (now (out .entry)) (now (out .exit))
-        (walkOf 1024 nodes targets (now («node_words» .entry)) (now («target_words» .entry)) (now (subject .entry))) ⌝ }
+// The match within the widest frontiers: one that would pass its limit is 19.
+fn settle(tried: Tried) -> TableMatch
+    ensures { λ r. ⌜ r ≡ settled tried ⌝ }
 {
-    let mut both = [0u32; 2 * MAX_FORK_FRONTIER];
-    let mut list = [0u32; LONG_LIST];
-    match_within(
-        nodes,
-        targets,
-        node_words,
-        target_words,
-        subject,
-        &mut both,
-        &mut list,
-        out,
-    )
+    match tried {
+        Tried::Answered(r) => r,
+        Tried::Wide => TableMatch::Damaged,
+    }
 }
 
-// The match within narrow frontiers; where one would pass its limit, all again within the widest.
-fn match_walk(
+// The two widest frontiers and room for a long list.
+fn match_wide(
     nodes: usize,
     targets: usize,
     node_words: &[u32],
@@ -588,16 +573,23 @@ fn match_walk(
         × (length (now subject) ≤ 4096) ⌝ }
     ensures { λ r. ⌜
         outcome (matchAnswer r) (now (out .exit))
-        ≡ written (walkOf 1024 nodes targets (now («node_words» .entry)) (now («target_words» .entry)) (now (subject .entry)))
+        ≡ written
+        (walkOf 1024 nodes targets (now («node_words» .entry)) (now («target_words» .entry)) (now (subject .entry)))
         (now (out .entry)) ⌝ }
 {
-    match match_narrow(nodes, targets, node_words, target_words, subject, out) {
-        Tried::Answered(r) => r,
-        Tried::Wide => match match_wide(nodes, targets, node_words, target_words, subject, out) {
-            Tried::Answered(r) => r,
-            Tried::Wide => TableMatch::Damaged,
-        },
-    }
+    let mut both = [0u32; 2 * MAX_FORK_FRONTIER];
+    let mut list = [0u32; LONG_LIST];
+    let tried = match_within(
+        nodes,
+        targets,
+        node_words,
+        target_words,
+        subject,
+        &mut both,
+        &mut list,
+        out,
+    );
+    settle(tried)
 }
 
 // 19 on the counts: there is a node, and neither count exceeds its area.
@@ -613,7 +605,8 @@ pub fn counts_fit(nodes: usize, targets: usize, node_words: &[u32], target_words
     targets <= target_words.len()
 }
 
-// A match for a subject that the caller has parsed: 1 for a text that no parse accepts, then 19, then 21.
+// A match for a subject that the caller has parsed: 1, then 19, then 21. Narrow frontiers come first; where one would pass
+// its limit, all again within the widest.
 pub fn match_parsed(
     nodes: usize,
     targets: usize,
@@ -633,7 +626,10 @@ pub fn match_parsed(
     if !counts_fit(nodes, targets, node_words, target_words) {
         return TableMatch::Damaged;
     }
-    match_walk(nodes, targets, node_words, target_words, subject, out)
+    match match_narrow(nodes, targets, node_words, target_words, subject, out) {
+        Tried::Answered(r) => r,
+        Tried::Wide => match_wide(nodes, targets, node_words, target_words, subject, out),
+    }
 }
 
 // The refusal of a subject's text, as that of a match.
@@ -646,7 +642,8 @@ fn refused_subject(text: Parsed) -> TableMatch
     }
 }
 
-// The list of the targets that a subject matches in a table, written over the first places of the output: 1 to 9, then 19, then 21.
+// The list of the targets that a subject matches in a table, written over the first places of the output:
+// 1 to 9, then 19, then 21.
 pub fn match_table(
     nodes: usize,
     targets: usize,

@@ -1,16 +1,17 @@
 -- `sublist_walk::visit_front` meets its contract. The loop's invariant: the first `i` nodes give the frontier in the other half and a list that stands in the output behind the `at` targets before it; the nodes to visit are as they were. Assumes nothing.
 use Prim.Native.Nat.{_+_, _-_, _/_, _≤_}
 use native.Mathlib.Omega.{arith}
-use mathlib.Core.Path.{_≡_, refl, sym, _∙_, ap}
+use mathlib.Core.Path.{_≡_, refl, _∙_}
 use mathlib.Core.List.{[]}
-use lib.ListN.{length, take, drop, length-drop}
+use lib.ListN.{length, take, drop}
 use borrow.Author.Needs.{needs}
 use borrow.Rule.Slice.PartMut.{same-len-mid}
 use Rattle.sublist_walk.specs.Walk.{part, level, visits}
 use Rattle.sublist_walk.specs.Told.{Listed}
-use Rattle.sublist_walk.proofs.Visits.{listed-none, next-on, next-failed}
+use Rattle.sublist_walk.proofs.Visits.{listed-none}
 use Rattle.sublist_walk.proofs.Levels.{part-length, reaches-on, reaches-failed}
-use Rattle.sublist_walk.proofs.Lending.{lent-length, back-there, back-turn, turn-within, read-same}
+use Rattle.sublist_walk.proofs.Lending.{turn-within}
+use Rattle.sublist_walk.proofs.Fronts.{turn-failed, turn-on}
 use Rattle.sublist_walk.proofs.visit_front.Statement.{statement}
 use Rattle.sublist_walk.proofs.visit_front.Tie as tie
 
@@ -94,16 +95,11 @@ returns c =
     let l = at-loop .loop in
     let v = after-visit .visit in
     let half = length (a .both .now) / 2 in
-    let to = half - a .from in
-    let e : to + half - to ≡ half = omega arith in
-    let fits : to + half ≤ length (l .both) = omega arith in
-    let same = v .kept .1 .1 .1 .1 .1 .1 .0 in
-    let k = lent-length (l .both) (v .last .1 .1 .1 .1 .1 .1 .0) to (to + half - to) half e fits same in
-    let f = ap (λ x. take (l .next) (part (l .both) to x)) e in
-    let d = read-same (l .both) (a .both .now) (a .from) (a .n) (l .i) (l .inv .2) (in-loop .loop-test .taken) in
-    next-failed half (a .node-words .now) (a .nodes) (a .targets) (a .target-words .now) (a .hash) (drop (a .from) (a .both .now)) _ (a .at) (l .size) (l .i) _ _ (l .inv .0)
-    (a .n) (in-loop .loop-test .taken) (rw (length-drop (a .from) (a .both .now)) (omega arith)) _ k _ f _ d _
-    (reaches-failed (v .result) (v .last .1 .1 .1 .1 .1 .1 .0) _ (v .last .1 .1 .1 .1 .1 .1 .1 .1 .0) (l .size) 1 _ (v .ensures) _ (after-f .f .given .1))
+    let lent = half - a .from + half - (half - a .from) in
+    let to = v .last .1 .1 .1 .1 .1 .1 .0 in
+    turn-failed half (a .node-words .now) (a .nodes) (a .targets) (a .target-words .now) (a .hash) (a .both .now) (l .both) to (a .from) (a .n) (l .next) (a .at) (l .size) (l .i) _ _ (l .inv .0)
+    (start .pre .0) (omega arith) (l .inv .3) (l .inv .2) (in-loop .loop-test .taken) (start .pre .1) lent (omega arith) (v .kept .1 .1 .1 .1 .1 .1 .0)
+    _ (reaches-failed (v .result) to _ (v .last .1 .1 .1 .1 .1 .1 .1 .1 .0) (l .size) 1 _ (v .ensures) _ (after-f .f .given .1))
 
 enum-known-front : tie.Need-enum-known-front Inv-loop μ-loop
 enum-known-front c = search needs
@@ -125,20 +121,15 @@ loop-again c =
     let l = at-loop .loop in
     let v = after-visit .visit in
     let half = length (a .both .now) / 2 in
-    let to = half - a .from in
-    let e : to + half - to ≡ half = omega arith in
-    let fits : to + half ≤ length (l .both) = omega arith in
-    let same = v .kept .1 .1 .1 .1 .1 .1 .0 in
-    let k = lent-length (l .both) (v .last .1 .1 .1 .1 .1 .1 .0) to (to + half - to) half e fits same in
-    let f = ap (λ x. take (l .next) (part (l .both) to x)) e in
-    let d = read-same (l .both) (a .both .now) (a .from) (a .n) (l .i) (l .inv .2) (in-loop .loop-test .taken) in
-    let t = back-there (l .both) (v .last .1 .1 .1 .1 .1 .1 .0) to (to + half - to) half e fits same in
-    let w = reaches-on (v .result) (v .last .1 .1 .1 .1 .1 .1 .0) _ (v .last .1 .1 .1 .1 .1 .1 .1 .1 .0) (l .size) 1 _ (v .ensures) _ _ (after-front .front .given .1) in (
-      next-on half (a .node-words .now) (a .nodes) (a .targets) (a .target-words .now) (a .hash) (drop (a .from) (a .both .now)) _ (a .at) (l .size) (l .i) _ _ (l .inv .0)
-          (rw (length-drop (a .from) (a .both .now)) (omega arith)) _ k _ f _ d _ _ (ap (take (after-front .front .given .0 .0)) (sym t)) _ _ (w .1),
-      omega (arith, w .0, same, k),
-      back-turn (l .both) (v .last .1 .1 .1 .1 .1 .1 .0) to (to + half - to) half e fits same (a .from) (a .n) (start .pre .0) refl (start .pre .1) ∙ l .inv .2,
-      same-len-mid to (to + half - to) (l .both) (v .last .1 .1 .1 .1 .1 .1 .0) same ∙ l .inv .3,
+    let lent = half - a .from + half - (half - a .from) in
+    let to = v .last .1 .1 .1 .1 .1 .1 .0 in
+    let w = reaches-on (v .result) to _ (v .last .1 .1 .1 .1 .1 .1 .1 .1 .0) (l .size) 1 _ (v .ensures) _ _ (after-front .front .given .1) in
+    let g = turn-on half (a .node-words .now) (a .nodes) (a .targets) (a .target-words .now) (a .hash) (a .both .now) (l .both) to (a .from) (a .n) (l .next) (a .at) (l .size) (l .i) _ _ (l .inv .0)
+    (start .pre .0) (omega arith) (l .inv .3) (l .inv .2) (in-loop .loop-test .taken) (start .pre .1) lent (omega arith) (v .kept .1 .1 .1 .1 .1 .1 .0) (after-front .front .given .0 .0) _ _ w in (
+      g .0,
+      g .1,
+      g .2,
+      same-len-mid (half - a .from) lent (l .both) to (v .kept .1 .1 .1 .1 .1 .1 .0) ∙ l .inv .3,
       v .kept .1 .1 .1 .1 .1 .1 .1 .1 .0 ∙ l .inv .4,
       l .inv .5,
       search needs,
