@@ -26,12 +26,8 @@ use Rattle.resolve_cache.specs.Area.{Area, keyLength, targetCount}
 use Rattle.resolve_cache.specs.Cache.{short, badSlot, badFrom, bad, findFrom, emptied, adopt, Resolved}
 use Rattle.resolve_cache.specs.Cache.{unchanged, workBy, work, ifAccepted, resolve}
 use Rattle.resolve_cache.specs.Answers.{resolveAnswer}
-use Rattle.resolve_cache.specs.Deciding.{Roomy, Ready, Small, seen, current, showing, Decides}
+use Rattle.resolve_cache.specs.Deciding.{Wide, Ready, Small, seen, current, showing, Decides}
 use Rattle.resolve_cache.proofs.Slots.{or-false, short-wide, find-sound}
-
--- 17 does not apply
-pub short-roomy : (n : ℕ) (a : Area) → short n a ≡ false → Roomy n a
-short-roomy n a e = let w = short-wide n a e in record { few = w .few; inHeads = w .heads; inKeys = w .keys; inKept = w .kept }
 
 small-from : (heads : List ℕ) (i n : ℕ) → badFrom heads i n ≡ false → (j : ℕ) → i ≤ j → j < i + n → keyLength heads j ≤ 256
 small-from heads i zero e j h k = absurd (omega arith)
@@ -55,8 +51,8 @@ module _ (c : ResolveCache) (a : Area) (b : bad c a ≡ false) where
   rest : (ltb (c .capacity) (c .used) ≡ false) × (badFrom (a .heads) 0 (c .used) ≡ false)
   rest = or-false (ltb (c .capacity) (c .used)) (badFrom (a .heads) 0 (c .used)) (parts .1)
 
-  pub good-ready : Roomy (c .capacity) a → Ready c a
-  good-ready r = record { any = omega (arith, eqb-false (c .capacity) 0 (parts .0)); fits = ltb-false (c .capacity) (c .used) (rest .0); roomy = r }
+  pub good-ready : Wide (c .capacity) a → Ready c a
+  good-ready r = record { any = omega (arith, eqb-false (c .capacity) 0 (parts .0)); fits = ltb-false (c .capacity) (c .used) (rest .0); wide = r }
 
   pub good-small : (n : ℕ) → n ≤ c .used → Small (a .heads) n
   good-small n h i k = small-from (a .heads) 0 (c .used) (rest .1) i (omega arith) (omega arith)
@@ -106,7 +102,7 @@ module _ (c : ResolveCache) (a : Area) (s : Snapshot) (words subject out : List 
       works = rw (accepted, h, b, d)
 
       ready : Ready c a
-      ready = good-ready c a b (short-roomy (c .capacity) a h)
+      ready = good-ready c a b (short-wide (c .capacity) a h)
 
       -- a lookup in the slots used
       pub looked : Decides c a s words subject out (seen (findFrom (a .heads) (a .keys) subject 0 ((current c a s words subject out) .used)) (a .heads) (length out))

@@ -67,7 +67,7 @@ module _ (e : ResolveCache) (a : Area) (subject list : List ℕ) where
 -- the cache on a generation has room too
 pub ready-current : (g : Generation) (c d : ResolveCache) (a : Area) → d ≡ adopt g c → Ready c a → Ready d a
 ready-current g c d a e r =
-    rw e (record { any = omega (arith, r .any, adopt-used g c .1); fits = omega (arith, r .fits, adopt-used g c .0, adopt-used g c .1); roomy = rw (adopt-used g c .1) (r .roomy) })
+    rw e (record { any = omega (arith, r .any, adopt-used g c .1); fits = omega (arith, r .fits, adopt-used g c .0, adopt-used g c .1); wide = rw (adopt-used g c .1) (r .wide) })
 
 module _ (c : ResolveCache) (a : Area) (s : Snapshot) (words subject out : List ℕ) where
   -- a refused match leaves the resolve refused

@@ -16,15 +16,9 @@ use Rattle.sublist_walk.specs.Walk.{part}
 use Rattle.sublist_tree.specs.Lists.{put}
 use Rattle.resolve_cache.specs.Area.{Area, keyLength, targetCount, stampAt, keyAt, targetsAt, keep, touch}
 use Rattle.resolve_cache.specs.Cache.{short, badFrom, findFrom, oldestFrom}
+pub use Rattle.resolve_cache.specs.Deciding.{Wide}
 use Rattle.resolve_cache.proofs.Put.{length-put, part-put, part-before, part-behind, getD-put-in}
 use Rattle.resolve_cache.proofs.Put.{getD-put-before, getD-put-behind}
-
--- the area holds n slots
-pub record Wide (n : ℕ) (a : Area) : Type 0 where
-  pub few : n ≤ 1024
-  pub heads : 3 * n ≤ length (a .heads)
-  pub keys : 256 * n ≤ length (a .keys)
-  pub kept : 16 * n ≤ length (a .kept)
 
 pub or-false : (a b : Bool) → or a b ≡ false → (a ≡ false) × (b ≡ false)
 or-false true b e = (e, cc)

@@ -26,17 +26,17 @@ use Rattle.resolve_cache.specs.Cache.{Resolved, unchanged, miss, ifAccep
 use Rattle.resolve_cache.specs.Answers.{resolveAnswer}
 
 -- the three lists have room for n slots, 1,024 at the most
-pub record Roomy (n : ℕ) (a : Area) : Type 0 where
+pub record Wide (n : ℕ) (a : Area) : Type 0 where
   pub few : n ≤ 1024
-  pub inHeads : 3 * n ≤ length (a .heads)
-  pub inKeys : 256 * n ≤ length (a .keys)
-  pub inKept : 16 * n ≤ length (a .kept)
+  pub heads : 3 * n ≤ length (a .heads)
+  pub keys : 256 * n ≤ length (a .keys)
+  pub kept : 16 * n ≤ length (a .kept)
 
 -- 17 and 18 on the capacity do not apply
 pub record Ready (c : ResolveCache) (a : Area) : Type 0 where
   pub any : 1 ≤ c .capacity
   pub fits : c .used ≤ c .capacity
-  pub roomy : Roomy (c .capacity) a
+  pub wide : Wide (c .capacity) a
 
 -- 1 to 9 do not apply
 abbrev pub Accepted : List ℕ → Type 0

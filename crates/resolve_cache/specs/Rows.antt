@@ -115,10 +115,10 @@ rows =
     ∷ asResolve (cache 1 1 0 5 3) (slot (bytes "p") (9 ∷ []) 5 ∷ []) (table 0 (upTo 17)) (bytes "a") (replicate 17 7)
     (walked 17) (cache 1 1 0 6 4) (slot (bytes "p") (9 ∷ []) 5 ∷ []) (upTo 17)
     -- a subject of 256 bytes is kept, one of 257 is not
-    ∷ asResolve (cache 1 0 0 0 0) (slot [] [] 0 ∷ []) (table 0 []) (long 256) (7 ∷ []) (walked 0) (cache 1 1 0 1 1)
-    (slot (long 256) [] 1 ∷ []) (7 ∷ [])
-    ∷ asResolve (cache 1 0 0 0 0) (slot [] [] 0 ∷ []) (table 0 []) (long 257) (7 ∷ []) (walked 0) (cache 1 0 0 1 1)
-    (slot [] [] 0 ∷ []) (7 ∷ [])
+    ∷ asResolve (cache 1 0 0 0 0) (slot [] [] 0 ∷ []) (table 0 []) (long 256) (7 ∷ [])
+    (walked 0) (cache 1 1 0 1 1) (slot (long 256) [] 1 ∷ []) (7 ∷ [])
+    ∷ asResolve (cache 1 0 0 0 0) (slot [] [] 0 ∷ []) (table 0 []) (long 257) (7 ∷ [])
+    (walked 0) (cache 1 0 0 1 1) (slot [] [] 0 ∷ []) (7 ∷ [])
     -- such a resolve too empties the cache and adopts another generation
     ∷ asResolve (cache 1 1 0 5 3) (slot (bytes "p") (9 ∷ []) 5 ∷ []) (table 2 (upTo 17)) (bytes "a") (replicate 17 7)
     (walked 17) (cache 1 0 2 1 4) (slot (bytes "p") (9 ∷ []) 5 ∷ []) (upTo 17)
@@ -149,13 +149,14 @@ rows =
     (walked 0) (cache 2 2 0 6 4) (slot (bytes "p") [] 1 ∷ slot (bytes "a") [] 6 ∷ []) []
     -- "Next tick is tick plus one, wrapping"; "adds one to walks (modulo 2^64)": on a walk that keeps its list, on
     -- one that does not, and on a hit
-    ∷ asResolve (cache 1 0 0 (2 ^ 64 - 1) (2 ^ 64 - 1)) (slot [] [] 0 ∷ []) (table 0 []) (bytes "a") [] (walked 0)
-    (cache 1 1 0 0 0) (slot (bytes "a") [] 0 ∷ []) []
+    ∷ asResolve (cache 1 0 0 (2 ^ 64 - 1) (2 ^ 64 - 1)) (slot [] [] 0 ∷ []) (table 0 []) (bytes "a") []
+    (walked 0) (cache 1 1 0 0 0) (slot (bytes "a") [] 0 ∷ []) []
     ∷ asResolve (cache 1 0 0 (2 ^ 64 - 1) (2 ^ 64 - 1)) (slot [] [] 0 ∷ []) (table 0 (upTo 17)) (bytes "a")
-    (replicate 17 7) (walked 17) (cache 1 0 0 0 0) (slot [] [] 0 ∷ []) (upTo 17)
-    ∷ asResolve (cache 1 1 0 (2 ^ 64 - 1) 3) (slot (bytes "a") [] 5 ∷ []) (table 0 []) (bytes "a") [] (kept 0 0)
-    (cache 1 1 0 0 3) (slot (bytes "a") [] 0 ∷ []) []
-    -- "1 to 9, then the lowest number that applies": text, 17, 18, 19
+    (replicate 17 7)
+    (walked 17) (cache 1 0 0 0 0) (slot [] [] 0 ∷ []) (upTo 17)
+    ∷ asResolve (cache 1 1 0 (2 ^ 64 - 1) 3) (slot (bytes "a") [] 5 ∷ []) (table 0 []) (bytes "a") []
+    (kept 0 0) (cache 1 1 0 0 3) (slot (bytes "a") [] 0 ∷ []) []
+    -- "A call's own subject .. is checked first ..; then the lowest number that applies is given": 17, 18, 19
     ∷ asRefused (cache 1025 0 0 5 3) (slot [] [] 0 ∷ []) damaged [] (7 ∷ []) (answer 3 [])
     ∷ asRefused (cache 1025 1026 0 5 3) (slot [] [] 0 ∷ []) damaged (bytes "a") (7 ∷ []) (answer 17 [])
     ∷ asRefused (cache 2 3 0 5 3) (slot [] [] 0 ∷ []) damaged (bytes "a") (7 ∷ []) (answer 17 [])
@@ -163,8 +164,8 @@ rows =
     ∷ asRefused (cache 0 0 0 5 3) (slot [] [] 0 ∷ []) damaged (bytes "a") (7 ∷ []) (answer 18 [])
     ∷ asRefused (cache 1 1 0 5 3) (slot (bytes "a") (9 ∷ []) 5 ∷ []) damaged (bytes "a") (7 ∷ []) (answer 19 [])
     -- 19: "the rest arises only in a walk, so not on a cache hit"; in a walk it comes before 21
-    ∷ asResolve (cache 1 1 0 5 3) (slot (bytes "a") (9 ∷ []) 5 ∷ []) broken (bytes "a") (7 ∷ []) (kept 0 1)
-    (cache 1 1 0 6 3) (slot (bytes "a") (9 ∷ []) 6 ∷ []) (7 ∷ [])
+    ∷ asResolve (cache 1 1 0 5 3) (slot (bytes "a") (9 ∷ []) 5 ∷ []) broken (bytes "a") (7 ∷ [])
+    (kept 0 1) (cache 1 1 0 6 3) (slot (bytes "a") (9 ∷ []) 6 ∷ []) (7 ∷ [])
     ∷ asRefused (cache 1 1 0 5 3) (slot (bytes "p") (9 ∷ []) 5 ∷ []) broken (bytes "a") [] (answer 19 [])
     -- 18: "a used slot has a key over 256 bytes or over 16 targets", looked for on another generation too; slots that
     -- are not used are not looked at

@@ -17,7 +17,7 @@ ghost use Rattle.resolve_cache.specs.Cache.{short, badSlot, badFrom, bad
 ghost use Rattle.resolve_cache.specs.Cache.{withCapacity, newCache, clear, adopt, ticked, hit, walked, grown};
 ghost use Rattle.resolve_cache.specs.Cache.{qualifies, handed, resolve};
 ghost use Rattle.resolve_cache.specs.Answers.{cacheAnswer, resolveAnswer, lent, left, listOf};
-ghost use Rattle.resolve_cache.specs.Deciding.{Roomy, Ready, Accepted, Small, Passes, slotOf, seen, Keeps};
+ghost use Rattle.resolve_cache.specs.Deciding.{Wide, Ready, Accepted, Small, Passes, slotOf, seen, Keeps};
 ghost use Rattle.resolve_cache.specs.Deciding.{walking, Decides};
 use subject::Parsed;
 use subject::SubjectError;
@@ -304,7 +304,7 @@ fn has_bad_slot(heads: &[u64], n: usize) -> bool
 
 // 18: capacity is 0, more slots are used than capacity, or a used slot is bad.
 fn is_bad(cache: ResolveCache, heads: &[u64], keys: &[u8], kept: &[u32]) -> bool
-    requires { ⌜ Roomy (cache .capacity) (lent (now heads) (now keys) (now kept)) ⌝ }
+    requires { ⌜ Wide (cache .capacity) (lent (now heads) (now keys) (now kept)) ⌝ }
     ensures { λ r. ⌜
         r ≡ bad cache (lent (now (heads .entry)) (now (keys .entry)) (now (kept .entry))) ⌝ }
 {

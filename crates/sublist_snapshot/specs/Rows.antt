@@ -69,35 +69,34 @@ rows =
     -- the root alone, of generation 0
     ∷ asEmpty (replicate 17 5) (answer 0 (1 ∷ 0 ∷ 0 ∷ 1 ∷ [])) (replicate 16 0 ++ (5 ∷ []))
     ∷ asEmpty (replicate 15 5) (answer 20 []) (replicate 15 5)
-    -- "`store` copies the new table, stamps it with the counter, returns that, and adds one": 1, then 2, whatever
-    -- build gave the table.
-    -- What is copied is as many words as the table's counts say
-    ∷ asStore (snapshot 1 2 7 1) (replicate 19 5) (table 1 1 7 (upTo 20) (8 ∷ 9 ∷ [])) (answer 0 (1 ∷ []))
-    (snapshot 1 1 1 2) (upTo 16 ++ (8 ∷ 5 ∷ 5 ∷ []))
-    ∷ asStore (snapshot 1 1 1 2) (replicate 19 5) (table 1 2 0 (upTo 16) (8 ∷ 9 ∷ [])) (answer 0 (2 ∷ []))
-    (snapshot 1 2 2 3) (upTo 16 ++ (8 ∷ 9 ∷ 5 ∷ []))
+    -- "`store` copies the new table, stamps it with the counter, returns that, and adds one": 1, then 2,
+    -- whatever generation build gave the table. As many words are copied as the table's counts say
+    ∷ asStore (snapshot 1 2 7 1) (replicate 19 5) (table 1 1 7 (upTo 20) (8 ∷ 9 ∷ []))
+    (answer 0 (1 ∷ [])) (snapshot 1 1 1 2) (upTo 16 ++ (8 ∷ 5 ∷ 5 ∷ []))
+    ∷ asStore (snapshot 1 1 1 2) (replicate 19 5) (table 1 2 0 (upTo 16) (8 ∷ 9 ∷ []))
+    (answer 0 (2 ∷ [])) (snapshot 1 2 2 3) (upTo 16 ++ (8 ∷ 9 ∷ 5 ∷ []))
     -- "modulo 2^64"
-    ∷ asStore (snapshot 1 0 4 (2 ^ 64 - 1)) (replicate 16 5) (table 1 0 0 (upTo 16) []) (answer 0 ((2 ^ 64 - 1) ∷ []))
-    (snapshot 1 0 (2 ^ 64 - 1) 0) (upTo 16)
-    ∷ asStore (snapshot 1 0 4 0) (replicate 16 5) (table 1 0 0 (upTo 16) []) (answer 0 (0 ∷ [])) (snapshot 1 0 0 1)
-    (upTo 16)
+    ∷ asStore (snapshot 1 0 4 (2 ^ 64 - 1)) (replicate 16 5) (table 1 0 0 (upTo 16) [])
+    (answer 0 ((2 ^ 64 - 1) ∷ [])) (snapshot 1 0 (2 ^ 64 - 1) 0) (upTo 16)
+    ∷ asStore (snapshot 1 0 4 0) (replicate 16 5) (table 1 0 0 (upTo 16) [])
+    (answer 0 (0 ∷ [])) (snapshot 1 0 0 1) (upTo 16)
     -- 19 before 20: "a table's counts exceed its areas or it has no node", "a store only those of the new table"
     ∷ asRefused (snapshot 1 0 4 3) [] (table 0 0 0 [] []) (answer 19 [])
     ∷ asRefused (snapshot 1 0 4 3) [] (table 2 0 0 (upTo 31) []) (answer 19 [])
     ∷ asRefused (snapshot 1 0 4 3) [] (table 1 2 0 (upTo 16) (8 ∷ [])) (answer 19 [])
-    ∷ asStore (snapshot 0 9 4 3) (replicate 16 5) (table 1 0 0 (upTo 16) []) (answer 0 (3 ∷ [])) (snapshot 1 0 3 4)
-    (upTo 16)
+    ∷ asStore (snapshot 0 9 4 3) (replicate 16 5) (table 1 0 0 (upTo 16) [])
+    (answer 0 (3 ∷ [])) (snapshot 1 0 3 4) (upTo 16)
     -- 20: "the snapshot's area is shorter than the table", that is, than its nodes' 16 words each and its target words
     ∷ asRefused (snapshot 1 0 4 3) (replicate 33 5) (table 2 2 0 (upTo 32) (8 ∷ 9 ∷ [])) (answer 20 [])
-    ∷ asStore (snapshot 1 0 4 3) (replicate 34 5) (table 2 2 0 (upTo 32) (8 ∷ 9 ∷ [])) (answer 0 (3 ∷ []))
-    (snapshot 2 2 3 4) (upTo 32 ++ (8 ∷ 9 ∷ []))
+    ∷ asStore (snapshot 1 0 4 3) (replicate 34 5) (table 2 2 0 (upTo 32) (8 ∷ 9 ∷ []))
+    (answer 0 (3 ∷ [])) (snapshot 2 2 3 4) (upTo 32 ++ (8 ∷ 9 ∷ []))
     -- 19 on the counts of a snapshot
     ∷ asCounts (snapshot 2 2 4 3) (replicate 34 5) true
     ∷ asCounts (snapshot 2 2 4 3) (replicate 33 5) false
     ∷ asCounts (snapshot 0 2 4 3) (replicate 34 5) false
     -- "a match through the snapshot also returns the generation"; 1 to 9, then 19, then 21; a refusal leaves the output
-    ∷ asMatch (snapshot 1 1 4 3) (catchAll ++ (8 ∷ 5 ∷ [])) (bytes "a") (7 ∷ 7 ∷ []) (answer 0 (1 ∷ 1 ∷ 4 ∷ []))
-    (8 ∷ 7 ∷ [])
+    ∷ asMatch (snapshot 1 1 4 3) (catchAll ++ (8 ∷ 5 ∷ [])) (bytes "a") (7 ∷ 7 ∷ [])
+    (answer 0 (1 ∷ 1 ∷ 4 ∷ [])) (8 ∷ 7 ∷ [])
     ∷ asMatch (snapshot 0 1 4 3) (catchAll ++ (8 ∷ [])) [] [] (answer 3 []) []
     ∷ asMatch (snapshot 1 1 4 3) catchAll (bytes "a") [] (answer 19 []) []
     ∷ asMatch (snapshot 1 1 4 3) (catchAll ++ (8 ∷ [])) (bytes "a") [] (answer 21 (1 ∷ [])) []

@@ -9,8 +9,9 @@ use borrow.Author.Tests.{not-true, not-false}
 use Rattle.resolve_cache.specs.Cache.{short, bad, adopt, findFrom}
 use Rattle.resolve_cache.specs.Answers.{lent}
 use Rattle.resolve_cache.specs.Deciding.{seen, Decides}
-use Rattle.resolve_cache.proofs.Decisions.{short-roomy, good-ready, good-small, adopt-used, text-refused}
+use Rattle.resolve_cache.proofs.Decisions.{good-ready, good-small, adopt-used, text-refused}
 use Rattle.resolve_cache.proofs.Decisions.{refused-short, refused-bad, refused-damaged, looked}
+use Rattle.resolve_cache.proofs.Slots.{short-wide}
 use Rattle.resolve_cache.proofs.decide.Statement.{statement}
 use Rattle.resolve_cache.proofs.decide.Tie as tie
 
@@ -54,7 +55,7 @@ returns-2 c =
 is-bad-requires : tie.Need-is-bad-requires
 is-bad-requires c κs =
     let a = c .before .before .before .before .before .before .before .before .before .before .before .args in
-    short-roomy (a .cache .capacity) (lent (a .heads .now) (a .keys .now) (a .kept .now)) (roomy c)
+    short-wide (a .cache .capacity) (lent (a .heads .now) (a .keys .now) (a .kept .now)) (roomy c)
 
 returns-3 : tie.Need-returns-3
 returns-3 c =
@@ -86,7 +87,7 @@ look-up-requires c κs =
     let enough = sound .before .before in
     let a = enough .before .before .before .before .before .before .before .before .before .before .before .args in
     let area = lent (a .heads .now) (a .keys .now) (a .kept .now) in
-    let r = good-ready (a .cache) area (good sound) (short-roomy (a .cache .capacity) area (roomy enough)) in
+    let r = good-ready (a .cache) area (good sound) (short-wide (a .cache .capacity) area (roomy enough)) in
     let n : c .adopt .result .used ≤ a .cache .used = subst (λ d. d .used ≤ a .cache .used) (sym (on c)) (adopt-used (a .snapshot .generation) (a .cache) .0) in
     ((omega arith, omega arith, omega arith), good-small (a .cache) area (good sound) (c .adopt .result .used) n)
 

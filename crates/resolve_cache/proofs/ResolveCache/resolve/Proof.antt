@@ -22,7 +22,7 @@ show-requires c κs =
     let k = c .before .before .before .before in
     let s = c .before .before .slot .given in
     let d = told k (Hit (s .0 .0) (s .0 .1 .0)) (s .1) in
-    let r = d .0 .roomy in
+    let r = d .0 .wide in
     let l = d .1 in
     (omega arith, omega arith)
 
