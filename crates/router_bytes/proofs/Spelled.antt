@@ -1,11 +1,11 @@
 -- Laws of numbers and the bytes that spell them, over the width.
 use mathlib.Core.Path.{_≡_, refl, sym, ap, _∙_}
 use mathlib.Core.List.{List, [], _∷_, _++_, append-assoc, append-nil}
-use Prim.Native.Nat.{ℕ, zero, suc, _+_, _*_, _/_, _%_, _^_, _≤_, _<_}
-use native.Mathlib.Nat.{le-of-suc-le-suc, not-suc-le-zero, le-of-lt, suc-mul, pow-suc, div-lt-iff-lt-mul}
+use Prim.Native.Nat.{ℕ, zero, suc, _+_, _*_, _/_, _%_, _≤_, _<_}
+use native.Mathlib.Nat.{le-of-suc-le-suc, not-suc-le-zero, le-of-lt, suc-mul}
 use native.Mathlib.Numerals.{add-one, add-two, add-three}
 use native.Mathlib.Omega.{arith}
-use lib.ListN.{length, take, drop, getD, set, length-append}
+use lib.ListN.{length, take, drop, getD, set, length-append, length-set}
 use lib.Seq.{take-suc, drop-cons, take-at, drop-at, drop-drop, take-add, take-all, length-take-le, sets-eq}
 use Rattle.sublist_tree.specs.Lists.{put}
 use Rattle.sublist_walk.specs.Matching.{over}
@@ -39,15 +39,23 @@ module _ (width : ℕ) (bs d : List ℕ) where
   unfolding numbersIn
   length-numbers = length-tabulate (length bs / width) (λ (k : ℕ). spelled (take width (drop (k * width) bs)))
 
-  number-at : (i : ℕ) → i < length bs / width → getD (numbersIn width bs) i 0 ≡ spelled (take width (drop (i * width) bs))
+  pub number-at : (i : ℕ) → i < length bs / width → getD (numbersIn width bs) i 0 ≡ spelled (take width (drop (i * width) bs))
   unfolding numbersIn
   number-at i h = getD-tabulate (length bs / width) (λ (k : ℕ). spelled (take width (drop (k * width) bs))) i h
 
-  pub read-turn : (l : List ℕ) (i v : ℕ) → i < length bs / width → i < length d → v ≡ spelled (take width (drop (i * width) bs)) → l ≡ take i (numbersIn width bs) ++ drop i d → set l i v ≡ take (i + 1) (numbersIn width bs) ++ drop (i + 1) d
-  read-turn l i v h k e p = grow (numbersIn width bs) d l i v (rw length-numbers h) k (e ∙ sym (number-at i h)) p
+  -- the first i numbers are read, and l stands where d stood
+  abbrev pub Read : List ℕ → ℕ → Type 0
+  Read l i = (i ≤ length bs / width) × (length l ≡ length d) × (l ≡ take i (numbersIn width bs) ++ drop i d)
 
-  pub read-all : (l : List ℕ) (i : ℕ) → i ≡ length bs / width → l ≡ take i (numbersIn width bs) ++ drop i d → l ≡ numbersIn width bs ++ drop (length bs / width) d
-  read-all l i e p = p ∙ rw (e, take-all (length bs / width) (numbersIn width bs) (omega (arith, length-numbers)))
+  pub read-turn : {l : List ℕ} (i : ℕ) {v : ℕ} → Read l i → i < length bs / width → i < length d → v ≡ spelled (take width (drop (i * width) bs)) → Read (set l i v) (i + 1)
+  read-turn {l} i {v} p h k e = (
+    omega arith,
+    length-set l i v ∙ p .1,
+    grow (numbersIn width bs) d l i v (rw length-numbers h) k (e ∙ sym (number-at i h)) (p .2),
+  )
+
+  pub read-all : {l : List ℕ} (i : ℕ) → Read l i → i ≡ length bs / width → l ≡ numbersIn width bs ++ drop (length bs / width) d
+  read-all i p e = p .2 ∙ rw (e, take-all (length bs / width) (numbersIn width bs) (omega (arith, length-numbers)))
 
   module _ (ws : List ℕ) (n : ℕ) (count : n ≡ length bs / width) (loaded : ws ≡ numbersIn width bs ++ drop n d) where
     pub front : take n ws ≡ numbersIn width bs
@@ -60,7 +68,7 @@ pub length-spelling : (width n : ℕ) → length (spelling width n) ≡ width
 length-spelling zero n = refl
 length-spelling (suc width) n = ap suc (length-spelling width (n / 256))
 
-length-bytes : (width : ℕ) (ns : List ℕ) → length (bytesOf width ns) ≡ length ns * width
+pub length-bytes : (width : ℕ) (ns : List ℕ) → length (bytesOf width ns) ≡ length ns * width
 length-bytes width [] = omega arith
 length-bytes width (n ∷ ns) =
     length-append (spelling width n) (bytesOf width ns)
@@ -83,23 +91,31 @@ put-behind a d x =
 
 -- the bytes of numbers, written one number after the other over d
 module _ (width : ℕ) (ns d : List ℕ) where
-  pub write-turn : (l : List ℕ) (i n v : ℕ) → i < length ns → n ≡ i * width → v ≡ getD ns i 0 → l ≡ over (bytesOf width (take i ns)) d → put l n (spelling width v) ≡ over (bytesOf width (take (i + 1) ns)) d
-  write-turn l i n v h e f p =
-      let a = bytesOf width (take i ns) in
-      let at : n ≡ length a = e ∙ ap (λ (k : ℕ). k * width) (sym (length-take-le i ns (le-of-lt h))) ∙ sym (length-bytes width (take i ns)) in
-      let more : a ++ spelling width v ≡ bytesOf width (take (i + 1) ns) =
-      ap (λ (k : ℕ). a ++ spelling width k) f
-      ∙ ap (λ (x : List ℕ). a ++ x) (sym (append-nil (spelling width (getD ns i 0))))
-      ∙ sym (bytes-append width (take i ns) (getD ns i 0 ∷ []))
-      ∙ ap (bytesOf width) (sym (take-suc ns i 0 h))
-      ∙ ap (λ (k : ℕ). bytesOf width (take k ns)) (sym (add-one i)) in
-      ap (λ (x : List ℕ). put x n (spelling width v)) p
-      ∙ ap (λ (k : ℕ). put (over a d) k (spelling width v)) at
-      ∙ put-behind a d (spelling width v)
-      ∙ ap (λ (x : List ℕ). over x d) more
+  -- the first i numbers are written, and l stands where d stood
+  abbrev pub Written : List ℕ → ℕ → Type 0
+  Written l i = (i ≤ length ns) × (length l ≡ length d) × (l ≡ over (bytesOf width (take i ns)) d)
 
-  pub write-all : (l : List ℕ) (i : ℕ) → i ≡ length ns → l ≡ over (bytesOf width (take i ns)) d → l ≡ over (bytesOf width ns) d
-  write-all l i e p = p ∙ ap (λ (x : List ℕ). over (bytesOf width x) d) (take-all i ns (omega arith))
+  pub write-turn : {l m : List ℕ} (i : ℕ) → Written l i → i < length ns → length m ≡ length l → m ≡ put l (i * width) (spelling width (getD ns i 0)) → Written m (i + 1)
+  write-turn {l} {m} i p h same e =
+      let v = getD ns i 0 in
+      let a = bytesOf width (take i ns) in
+      let at : i * width ≡ length a = ap (λ (k : ℕ). k * width) (sym (length-take-le i ns (le-of-lt h))) ∙ sym (length-bytes width (take i ns)) in
+      let more : a ++ spelling width v ≡ bytesOf width (take (i + 1) ns) =
+      ap (λ (x : List ℕ). a ++ x) (sym (append-nil (spelling width v)))
+      ∙ sym (bytes-append width (take i ns) (v ∷ []))
+      ∙ ap (bytesOf width) (sym (take-suc ns i 0 h))
+      ∙ ap (λ (k : ℕ). bytesOf width (take k ns)) (sym (add-one i)) in (
+        omega arith,
+        same ∙ p .1,
+        e
+            ∙ ap (λ (x : List ℕ). put x (i * width) (spelling width v)) (p .2)
+            ∙ ap (λ (k : ℕ). put (over a d) k (spelling width v)) at
+            ∙ put-behind a d (spelling width v)
+            ∙ ap (λ (x : List ℕ). over x d) more,
+      )
+
+  pub write-all : {l : List ℕ} (i : ℕ) → Written l i → i ≡ length ns → l ≡ over (bytesOf width ns) d
+  write-all i p e = p .2 ∙ ap (λ (x : List ℕ). over (bytesOf width x) d) (take-all i ns (omega arith))
 
 -- a number's low and high word have its bytes
 module _ (n q r : ℕ) where
@@ -180,10 +196,3 @@ module _ (s : List ℕ) (at : ℕ) where
           ∙ append-assoc (take at s) x (y ++ drop (length (f ++ y)) s)
           ∙ ap (λ (l : List ℕ). take at s ++ l) (sym (append-assoc x y (drop (length (f ++ y)) s)))
           ∙ ap (λ (k : ℕ). take at s ++ ((x ++ y) ++ drop k s)) ends
-
--- a number is what its bytes spell, and bytes are those of the number that they spell
-pub spelled-spelling : (width n : ℕ) → n < 256 ^ width → spelled (spelling width n) ≡ n
-spelled-spelling zero n h = omega arith
-spelled-spelling (suc width) n h =
-    let rest : n / 256 < 256 ^ width = div-lt-iff-lt-mul {k = 256} {x = n} {y = 256 ^ width} (omega arith) .1 (rw pow-suc at h) in
-    ap (λ (k : ℕ). n % 256 + k * 256) (spelled-spelling width (n / 256) rest) ∙ omega arith

@@ -47,7 +47,7 @@ wordsIn bytes = numbersIn 4 bytes
 abbrev pub longsIn : List ℕ → List ℕ
 longsIn bytes = numbersIn 8 bytes
 
--- what a match on the words of an output leaves in its bytes: an accepted one writes the words over them, a refused one leaves them
+-- what a match on the words of an output leaves in its bytes: an accepted one writes the words over them
 abbrev pub onBytes : Outcome → List ℕ → Outcome
 onBytes (outcome a words) bytes = outcome a (afterAnswer a (over (bytesOf 4 words) bytes) bytes)
 
@@ -61,7 +61,7 @@ matchBytes n m nodes targets subject out =
 abbrev pub inNumbers : Area → Area
 inNumbers a = record { heads = longsIn (a .heads); keys = a .keys; kept = wordsIn (a .kept) }
 
--- what a resolve on the numbers of areas leaves in their bytes: an accepted one writes them over the bytes, a refused one leaves these
+-- what a resolve on the numbers of areas leaves in their bytes: an accepted one writes the numbers over them
 abbrev pub inBytes : Resolved → Area → List ℕ → Resolved
 inBytes r a out = record {
   says = r .says;

@@ -292,7 +292,7 @@ pub fn match_bytes(
     )
 }
 
-// The resolve on numbers that are copied from the bytes of heads, kept targets and output: an accepted one writes them back.
+// The resolve on numbers copied from the bytes of heads, kept targets and output: an accepted one writes them back.
 fn resolve_copied(
     cache: ResolveCache,
     longs: &mut [u64],

@@ -52,7 +52,7 @@ pub extern "C" fn router_snapshot_empty(area: &mut [u32]) -> CMadeSnapshot
     router_words::to_c_made(Snapshot::empty(area))
 }
 
-// A table takes the place of the standing one and is stamped with the counter; the generation that build gave it is not used.
+// A table takes the place of the standing one, stamped with the counter; the generation that build gave it is not used.
 #[no_mangle]
 pub extern "C" fn router_store(
     snapshot: CSnapshot,
@@ -94,7 +94,7 @@ pub extern "C" fn router_snapshot_match(
     router_words::to_c_snapshot_match(standing.match_into(area, subject, out))
 }
 
-// A fresh cache of so many slots in the lent areas, three numbers, 256 bytes and 16 targets a slot: its state, or why not.
+// A fresh cache of so many slots in the lent areas, three numbers, 256 bytes and 16 targets a slot, or why not.
 #[no_mangle]
 pub extern "C" fn router_cache_new(
     capacity: usize,
@@ -118,7 +118,7 @@ pub extern "C" fn router_cache_clear(cache: CCache) -> CCache
 }
 
 // The targets of a subject, from the cache or by a walk of the standing table.
-// The answer: where the list lies (0 in `kept`, 1 in `out`), its first place and its length, or why not; then the cache afterwards.
+// The answer: where the list lies (0 in `kept`, 1 in `out`), its first place and its length, or why not; then the cache.
 #[no_mangle]
 pub extern "C" fn router_resolve(
     cache: CCache,

@@ -1,4 +1,4 @@
-// The C calls of the router, on numbers and slices. Every call takes any numbers and bytes and asks nothing of its caller.
+// The C calls of the router, on numbers and slices. Every call takes any numbers and bytes and asks nothing more.
 // Texts, lists, tables, and what a cabinet keeps: the snapshot and the cache.
 mod cabinet;
 mod lists;

@@ -17,7 +17,8 @@ pub extern "C" fn router_insert(
 ) -> CAnswer
     ensures { λ r. ⌜
         Inserts r (now (words .exit)) (now (store .exit))
-        (insertNumbers (listOf entries used) (now (words .entry)) (now (store .entry)) (now (pattern .entry)) target) ⌝ }
+        (insertNumbers (listOf entries used) (now (words .entry)) (now (store .entry))
+        (now (pattern .entry)) target) ⌝ }
 {
     let list = ListState { entries, used };
     router_words::to_c_inserted(sublist_entries::insert_numbers(

@@ -1,4 +1,5 @@
--- Answers as the C calls give them: the number first, then the values, 0 where there is none; and the states that are lent and given back as numbers.
+-- Answers as the C calls give them: the number first, then the values, 0 where there is none.
+-- And the states that are lent and given back as numbers.
 use Prim.Native.Nat.{ℕ}
 use mathlib.Core.Bool.{Bool, true, false}
 use mathlib.Core.Path.{_≡_}

@@ -37,12 +37,5 @@ returns-2 c =
 pub match-bytes-spec : {M : Type 1} → statement M
 match-bytes-spec =
     tie.close
-    (tie.spec
-    (λ c κs. search needs)
-    (λ c κs. search needs)
-    returns
-    (λ c. search needs)
-    (λ c. search needs)
-    match-copies-requires
-    (λ c. search needs)
-    returns-2)
+    (tie.spec (λ c κs. search needs) (λ c κs. search needs) returns (λ c. search needs) (λ c. search needs)
+    match-copies-requires (λ c. search needs) returns-2)

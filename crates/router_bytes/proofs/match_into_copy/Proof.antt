@@ -39,17 +39,6 @@ returns c =
 pub match-into-copy-spec : {M : Type 1} → statement M
 match-into-copy-spec =
     tie.close
-    (tie.spec
-    (λ c κs. search needs)
-    (λ c. search needs)
-    slice-aggregate-match-copied
-    (λ c. search needs)
-    (λ c. search needs)
-    (λ c. search needs)
-    (λ c. search needs)
-    (λ c. search needs)
-    slice-aggregate-match-copied-2
-    match-copied-requires
-    (λ c. search needs)
-    (λ c. search needs)
-    returns)
+    (tie.spec (λ c κs. search needs) (λ c. search needs) slice-aggregate-match-copied (λ c. search needs)
+    (λ c. search needs) (λ c. search needs) (λ c. search needs) (λ c. search needs) slice-aggregate-match-copied-2
+    match-copied-requires (λ c. search needs) (λ c. search needs) returns)

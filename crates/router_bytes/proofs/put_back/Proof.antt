@@ -21,10 +21,4 @@ returns-2 c =
 
 pub put-back-spec : {M : Type 1} → statement M
 put-back-spec =
-    tie.close
-    (tie.spec
-    (λ c κs. search needs)
-    returns
-    (λ c κs. search needs)
-    (λ c. search needs)
-    returns-2)
+    tie.close (tie.spec (λ c κs. search needs) returns (λ c κs. search needs) (λ c. search needs) returns-2)

@@ -25,17 +25,6 @@ returns c =
 pub put-word-spec : {M : Type 1} → statement M
 put-word-spec =
     tie.close
-    (tie.spec
-    (λ c κs. search needs)
-    (λ c. search needs)
-    (λ c κs. search needs)
-    (λ c. search needs)
-    slice-write-bytes-2
-    (λ c κs. search needs)
-    (λ c. search needs)
-    slice-write-bytes-3
-    (λ c κs. search needs)
-    (λ c. search needs)
-    slice-write-bytes-4
-    (λ c. search needs)
-    returns)
+    (tie.spec (λ c κs. search needs) (λ c. search needs) (λ c κs. search needs) (λ c. search needs)
+    slice-write-bytes-2 (λ c κs. search needs) (λ c. search needs) slice-write-bytes-3 (λ c κs. search needs)
+    (λ c. search needs) slice-write-bytes-4 (λ c. search needs) returns)

@@ -38,18 +38,6 @@ returns-2 c =
 pub resolve-bytes-spec : {M : Type 1} → statement M
 resolve-bytes-spec =
     tie.close
-    (tie.spec
-    (λ c κs. search needs)
-    (λ c κs. search needs)
-    (λ c κs. search needs)
-    returns
-    (λ c. search needs)
-    (λ c. search needs)
-    (λ c. search needs)
-    (λ c. search needs)
-    resolve-copies-requires
-    (λ c. search needs)
-    (λ c. search needs)
-    (λ c. search needs)
-    (λ c. search needs)
-    returns-2)
+    (tie.spec (λ c κs. search needs) (λ c κs. search needs) (λ c κs. search needs) returns (λ c. search needs)
+    (λ c. search needs) (λ c. search needs) (λ c. search needs) resolve-copies-requires (λ c. search needs)
+    (λ c. search needs) (λ c. search needs) (λ c. search needs) returns-2)

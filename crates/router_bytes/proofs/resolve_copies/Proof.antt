@@ -84,26 +84,8 @@ returns c =
 pub resolve-copies-spec : {M : Type 1} → statement M
 resolve-copies-spec =
     tie.close
-    (tie.spec
-    (λ c κs. search needs)
-    (λ c κs. search needs)
-    (λ c κs. search needs)
-    (λ c κs. search needs)
-    (λ c. search needs)
-    slice-aggregate-resolve-copied
-    (λ c. search needs)
-    slice-aggregate-resolve-copied-2
-    (λ c. search needs)
-    slice-aggregate-resolve-copied-3
-    (λ c. search needs)
-    slice-aggregate-resolve-copied-4
-    resolve-copied-requires
-    (λ c. search needs)
-    (λ c. search needs)
-    (λ c. search needs)
-    (λ c. search needs)
-    same-length-5
-    same-length-6
-    same-length-7
-    (λ c. search needs)
-    returns)
+    (tie.spec (λ c κs. search needs) (λ c κs. search needs) (λ c κs. search needs) (λ c κs. search needs)
+    (λ c. search needs) slice-aggregate-resolve-copied (λ c. search needs) slice-aggregate-resolve-copied-2
+    (λ c. search needs) slice-aggregate-resolve-copied-3 (λ c. search needs) slice-aggregate-resolve-copied-4
+    resolve-copied-requires (λ c. search needs) (λ c. search needs) (λ c. search needs) (λ c. search needs)
+    same-length-5 same-length-6 same-length-7 (λ c. search needs) returns)

@@ -12,14 +12,5 @@ returns-2 c = simp (c .before .before .h2 .given .1) (c .to-c-no-verdict .ensure
 pub to-c-single-home-spec : {M : Type 1} → statement M
 to-c-single-home-spec =
     tie.close
-    (tie.spec
-    (λ c. search needs)
-    (λ c κs. search needs)
-    (λ c. search needs)
-    (λ c κs. search needs)
-    (λ c. search needs)
-    (λ c. search needs)
-    returns
-    returns-2
-    (λ c. search needs)
-    (λ c. search needs))
+    (tie.spec (λ c. search needs) (λ c κs. search needs) (λ c. search needs) (λ c κs. search needs)
+    (λ c. search needs) (λ c. search needs) returns returns-2 (λ c. search needs) (λ c. search needs))

@@ -10,9 +10,4 @@ returns c = c .to-c-cache .ensures ∙ c .before .clear .ensures ∙ ap clear (c
 
 pub router-cache-clear-spec : {M : Type 1} → statement M
 router-cache-clear-spec =
-    tie.close
-    (tie.spec
-    (λ c κs. search needs)
-    (λ c κs. search needs)
-    (λ c κs. search needs)
-    returns)
+    tie.close (tie.spec (λ c κs. search needs) (λ c κs. search needs) (λ c κs. search needs) returns)

@@ -9,8 +9,4 @@ returns c = same-made (c .before .with-capacity .ensures) (c .to-c-made-cache .e
 
 pub router-cache-new-spec : {M : Type 1} → statement M
 router-cache-new-spec =
-    tie.close
-    (tie.spec
-    (λ c κs. search needs)
-    (λ c κs. search needs)
-    returns)
+    tie.close (tie.spec (λ c κs. search needs) (λ c κs. search needs) returns)

@@ -18,9 +18,4 @@ returns c =
 pub router-resolve-single-home-spec : {M : Type 1} → statement M
 router-resolve-single-home-spec =
     tie.close
-    (tie.spec
-    (λ c κs. search needs)
-    (λ c κs. search needs)
-    (λ c κs. search needs)
-    (λ c. search needs)
-    returns)
+    (tie.spec (λ c κs. search needs) (λ c κs. search needs) (λ c κs. search needs) (λ c. search needs) returns)

@@ -9,9 +9,4 @@ returns c = told-made (c .before .before .before .empty .result) (c .to-c-made .
 
 pub router-snapshot-empty-spec : {M : Type 1} → statement M
 router-snapshot-empty-spec =
-    tie.close
-    (tie.spec
-    (λ c κs. search needs)
-    (λ c κs. search needs)
-    (λ c. search needs)
-    returns)
+    tie.close (tie.spec (λ c κs. search needs) (λ c κs. search needs) (λ c. search needs) returns)

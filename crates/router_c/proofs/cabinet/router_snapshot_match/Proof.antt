@@ -18,9 +18,4 @@ returns c =
 pub router-snapshot-match-spec : {M : Type 1} → statement M
 router-snapshot-match-spec =
     tie.close
-    (tie.spec
-    (λ c κs. search needs)
-    (λ c κs. search needs)
-    (λ c κs. search needs)
-    (λ c. search needs)
-    returns)
+    (tie.spec (λ c κs. search needs) (λ c κs. search needs) (λ c κs. search needs) (λ c. search needs) returns)

@@ -9,9 +9,4 @@ returns c = told-made (c .before .before .before .new .result) (c .to-c-made .en
 
 pub router-snapshot-new-spec : {M : Type 1} → statement M
 router-snapshot-new-spec =
-    tie.close
-    (tie.spec
-    (λ c κs. search needs)
-    (λ c κs. search needs)
-    (λ c. search needs)
-    returns)
+    tie.close (tie.spec (λ c κs. search needs) (λ c κs. search needs) (λ c. search needs) returns)

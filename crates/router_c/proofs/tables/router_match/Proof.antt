@@ -9,9 +9,4 @@ returns c = told-match (c .to-c-table-match .ensures) (c .before .before .before
 
 pub router-match-spec : {M : Type 1} → statement M
 router-match-spec =
-    tie.close
-    (tie.spec
-    (λ c κs. search needs)
-    (λ c κs. search needs)
-    (λ c. search needs)
-    returns)
+    tie.close (tie.spec (λ c κs. search needs) (λ c κs. search needs) (λ c. search needs) returns)

@@ -16,8 +16,4 @@ returns c = as-bit (c .has-tail-wildcard .result) ∙ ap bit (c .has-tail-wildca
 
 pub router-has-tail-wildcard-spec : {M : Type 1} → statement M
 router-has-tail-wildcard-spec =
-    tie.close
-    (tie.spec
-    (λ c κs. search needs)
-    (λ c. search needs)
-    returns)
+    tie.close (tie.spec (λ c κs. search needs) (λ c. search needs) returns)

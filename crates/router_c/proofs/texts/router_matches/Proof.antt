@@ -9,8 +9,4 @@ returns c = same-answer (c .before .matches .ensures) (c .to-c-matched .ensures)
 
 pub router-matches-spec : {M : Type 1} → statement M
 router-matches-spec =
-    tie.close
-    (tie.spec
-    (λ c κs. search needs)
-    (λ c κs. search needs)
-    returns)
+    tie.close (tie.spec (λ c κs. search needs) (λ c κs. search needs) returns)

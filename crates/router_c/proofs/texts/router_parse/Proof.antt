@@ -9,8 +9,4 @@ returns c = same-answer (c .before .parse .ensures) (c .to-c-parsed .ensures)
 
 pub router-parse-spec : {M : Type 1} → statement M
 router-parse-spec =
-    tie.close
-    (tie.spec
-    (λ c κs. search needs)
-    (λ c κs. search needs)
-    returns)
+    tie.close (tie.spec (λ c κs. search needs) (λ c κs. search needs) returns)

@@ -9,8 +9,4 @@ returns c = same-answer (c .before .parse-literal .ensures) (c .to-c-parsed .ens
 
 pub router-parse-literal-spec : {M : Type 1} → statement M
 router-parse-literal-spec =
-    tie.close
-    (tie.spec
-    (λ c κs. search needs)
-    (λ c κs. search needs)
-    returns)
+    tie.close (tie.spec (λ c κs. search needs) (λ c κs. search needs) returns)
