@@ -31,11 +31,14 @@ const AREA_WORDS: usize = NODE_WORDS + ENTRIES;
 
 const SLOTS: usize = 8;
 
+// The most targets that a slot keeps.
+const MOST_KEPT: usize = 16;
+
 const SLOT_NUMBERS: usize = SLOTS * 3;
 
 const SLOT_BYTES: usize = SLOTS * 256;
 
-const SLOT_TARGETS: usize = SLOTS * 16;
+const SLOT_TARGETS: usize = SLOTS * MOST_KEPT;
 
 type Words = [usize; ENTRY_NUMBERS];
 
@@ -259,14 +262,22 @@ struct List {
     pub generation: u64,
 }
 
+// What the last call on a cache gave, the cache's state in it, and the cache's areas.
+struct Cache {
+    pub given: CResolved,
+    pub heads: Heads,
+    pub keys: Keys,
+    pub kept: Kept,
+}
+
 // The answer to the last call, as the original gives it, and what later calls take: the list with its table, the
 // snapshot and the two caches.
 struct State {
     pub answer: CAnswer,
     pub list: List,
     pub snapshot: CSnapshot,
-    pub one: CCache,
-    pub two: CCache,
+    pub one: Cache,
+    pub two: Cache,
 }
 
 fn answer_of(number: u64, first: u64, second: u64, third: u64) -> CAnswer {
@@ -287,27 +298,58 @@ fn snapshot_of(nodes: u64, targets: u64, generation: u64, next: u64) -> CSnapsho
     }
 }
 
+fn fresh_list() -> List {
+    List {
+        entries: 0,
+        used: 0,
+        nodes: 0,
+        targets: 0,
+        generation: 0,
+    }
+}
+
+// An answer of a call on a cache, and the cache afterwards.
+fn given_of(number: u64, first: u64, cache: CCache) -> CResolved {
+    CResolved {
+        number,
+        first,
+        second: 0,
+        third: 0,
+        capacity: cache.capacity as u64,
+        used: cache.used as u64,
+        generation: cache.generation,
+        tick: cache.tick,
+        walks: cache.walks,
+    }
+}
+
+fn cache_of(capacity: u64, used: u64, generation: u64, tick: u64, walks: u64) -> CCache {
+    CCache {
+        capacity: capacity as usize,
+        used: used as usize,
+        generation,
+        tick,
+        walks,
+    }
+}
+
+fn fresh_cache() -> Cache {
+    Cache {
+        given: given_of(0, 0, cache_of(0, 0, 0, 0, 0)),
+        heads: [0u64; SLOT_NUMBERS],
+        keys: [0u8; SLOT_BYTES],
+        kept: [0u32; SLOT_TARGETS],
+    }
+}
+
 // Nothing is made yet.
 fn fresh() -> State {
-    let cache = CCache {
-        capacity: 0,
-        used: 0,
-        generation: 0,
-        tick: 0,
-        walks: 0,
-    };
     State {
         answer: answer_of(0, 0, 0, 0),
-        list: List {
-            entries: 0,
-            used: 0,
-            nodes: 0,
-            targets: 0,
-            generation: 0,
-        },
+        list: fresh_list(),
         snapshot: snapshot_of(0, 0, 0, 0),
-        one: cache,
-        two: cache,
+        one: fresh_cache(),
+        two: fresh_cache(),
     }
 }
 
@@ -568,62 +610,15 @@ fn on_snapshot(
 // The capacity asked for; the one that the cache has is the first value.
 fn new_cache(record: &[u8], heads: &Heads, keys: &Keys, kept: &Kept) -> CResolved {
     let m = router_c::router_cache_new(word_at(record, CACHE_CALL) as usize, heads, keys, kept);
-    CResolved {
-        number: m.number,
-        first: m.capacity,
-        second: 0,
-        third: 0,
-        capacity: m.capacity,
-        used: m.used,
-        generation: m.generation,
-        tick: m.tick,
-        walks: m.walks,
-    }
+    given_of(
+        m.number,
+        m.capacity,
+        cache_of(m.capacity, m.used, m.generation, m.tick, m.walks),
+    )
 }
 
 fn clear(cache: CCache) -> CResolved {
-    let c = router_c::router_cache_clear(cache);
-    CResolved {
-        number: 0,
-        first: 0,
-        second: 0,
-        third: 0,
-        capacity: c.capacity as u64,
-        used: c.used as u64,
-        generation: c.generation,
-        tick: c.tick,
-        walks: c.walks,
-    }
-}
-
-fn kept_at(kept: &Kept, at: usize) -> u32 {
-    if at < SLOT_TARGETS {
-        return kept[at];
-    }
-    0
-}
-
-// The targets that a slot keeps go over the output, where a walk writes its list.
-fn show(kept: &Kept, from: usize, out: &mut Targets) {
-    let mut i = 0;
-    while i < 16 {
-        out[i] = kept_at(kept, ahead(from, i));
-        i += 1;
-    }
-}
-
-// The original gives the list, and not where it lies.
-fn resolved(r: CResolved, kept: &Kept, out: &mut Targets) -> CResolved {
-    if r.number != 0 {
-        return r;
-    }
-    if r.first == 0 {
-        show(kept, r.second as usize, out);
-    }
-    let mut given = r;
-    given.first = r.third;
-    given.second = 0;
-    given
+    given_of(0, 0, router_c::router_cache_clear(cache))
 }
 
 // The list, then the subject.
@@ -638,8 +633,7 @@ fn resolve(
     out: &mut Targets,
 ) -> CResolved {
     let subject = after_list(record, CACHE_CALL);
-    let r = router_c::router_resolve(cache, heads, keys, kept, snapshot, area, subject, out);
-    resolved(r, kept, out)
+    router_c::router_resolve(cache, heads, keys, kept, snapshot, area, subject, out)
 }
 
 // The subject.
@@ -666,7 +660,7 @@ fn cached_verdict(
     )
 }
 
-fn cache_call(
+fn call_on_cache(
     record: &[u8],
     cache: CCache,
     heads: &mut Heads,
@@ -684,63 +678,110 @@ fn cache_call(
     }
 }
 
-fn cache_of(r: CResolved) -> CCache {
-    CCache {
-        capacity: r.capacity as usize,
-        used: r.used as usize,
-        generation: r.generation,
-        tick: r.tick,
-        walks: r.walks,
+fn kept_at(kept: &Kept, at: usize) -> u32 {
+    if at < SLOT_TARGETS {
+        return kept[at];
+    }
+    0
+}
+
+// The targets that a slot keeps go over the output, where a walk writes its list.
+fn show(kept: &Kept, from: usize, out: &mut Targets) {
+    let mut i = 0;
+    while i < MOST_KEPT {
+        out[i] = kept_at(kept, ahead(from, i));
+        i += 1;
     }
 }
 
-fn cache_in(state: State, which: u8) -> CCache {
-    if which == 0 {
+// A list that lies in what the cache keeps is shown.
+fn show_hit(given: CResolved, kept: &Kept, out: &mut Targets) {
+    if given.first == 0 {
+        show(kept, given.second as usize, out);
+    }
+}
+
+// The state in what the last call gave.
+fn state_in(r: CResolved) -> CCache {
+    cache_of(r.capacity, r.used, r.generation, r.tick, r.walks)
+}
+
+// The cache after the call of a record.
+fn call_cache(
+    record: &[u8],
+    cache: Cache,
+    snapshot: CSnapshot,
+    area: &Area,
+    out: &mut Targets,
+) -> Cache {
+    let mut heads = cache.heads;
+    let mut keys = cache.keys;
+    let mut kept = cache.kept;
+    let state = state_in(cache.given);
+    let given = call_on_cache(
+        record,
+        state,
+        &mut heads,
+        &mut keys,
+        &mut kept,
+        snapshot,
+        area,
+        out,
+    );
+    show_hit(given, &kept, out);
+    Cache {
+        given,
+        heads,
+        keys,
+        kept,
+    }
+}
+
+// The cache that a record is about.
+fn cache_in(record: &[u8], state: State) -> Cache {
+    if byte_at(record, WHICH) == 0 {
         return state.one;
     }
     state.two
 }
 
-fn with_cache(state: State, which: u8, r: CResolved) -> State {
+// The original gives the list of a resolve, and not where it lies.
+fn answer_in(kind: usize, r: CResolved) -> CAnswer {
+    if kind == RESOLVE {
+        if r.number == 0 {
+            return answer_of(0, r.third, 0, 0);
+        }
+    }
+    answer_of(r.number, r.first, r.second, 0)
+}
+
+fn with_cache(record: &[u8], state: State, cache: Cache) -> State {
     let mut next = state;
-    next.answer = answer_of(r.number, r.first, r.second, 0);
-    if which == 0 {
-        next.one = cache_of(r);
+    next.answer = answer_in(kind_of(record), cache.given);
+    if byte_at(record, WHICH) == 0 {
+        next.one = cache;
         return next;
     }
-    next.two = cache_of(r);
+    next.two = cache;
     next
 }
 
-// Whether a record is of a call on this cache.
-fn is_on(record: &[u8], which: u8) -> bool {
+// Whether a record is of a call on a cache.
+fn is_on_cache(record: &[u8]) -> bool {
     let kind = kind_of(record);
     if kind < NEW_CACHE {
         return false;
     }
-    if CACHED_VERDICT < kind {
-        return false;
-    }
-    byte_at(record, WHICH) == which
+    kind <= CACHED_VERDICT
 }
 
-fn on_cache(
-    record: &[u8],
-    state: State,
-    which: u8,
-    heads: &mut Heads,
-    keys: &mut Keys,
-    kept: &mut Kept,
-    area: &Area,
-    out: &mut Targets,
-) -> State {
-    if is_on(record, which) {
-        let cache = cache_in(state, which);
+fn on_cache(record: &[u8], state: State, area: &Area, out: &mut Targets) -> State {
+    if is_on_cache(record) {
         let snapshot = state.snapshot;
         return with_cache(
+            record,
             state,
-            which,
-            cache_call(record, cache, heads, keys, kept, snapshot, area, out),
+            call_cache(record, cache_in(record, state), snapshot, area, out),
         );
     }
     state
@@ -861,10 +902,10 @@ fn hold_list(tally: &mut Tally, record: &[u8], a: CAnswer, out: &Targets) {
 }
 
 // A cache as a call left it.
-fn hold_cache(tally: &mut Tally, record: &[u8], cache: CCache) {
-    hold_word(tally, record, SUBJECTS, cache.used as u64);
-    hold_number(tally, record, WALKS, cache.walks);
-    hold_number(tally, record, GENERATION, cache.generation);
+fn hold_cache(tally: &mut Tally, record: &[u8], given: CResolved) {
+    hold_word(tally, record, SUBJECTS, given.used);
+    hold_number(tally, record, WALKS, given.walks);
+    hold_number(tally, record, GENERATION, given.generation);
 }
 
 // What a call left, besides its answer and its list.
@@ -874,12 +915,9 @@ fn hold_state(tally: &mut Tally, record: &[u8], state: State) {
         hold_number(tally, record, CALL_AND_GENERATION, snapshot.generation);
         return;
     }
-    if is_on(record, 0) {
-        hold_cache(tally, record, state.one);
-        return;
-    }
-    if is_on(record, 1) {
-        hold_cache(tally, record, state.two);
+    if is_on_cache(record) {
+        let cache = cache_in(record, state);
+        hold_cache(tally, record, cache.given);
     }
 }
 
@@ -912,19 +950,12 @@ fn replay_next(
     targets: &mut Targets,
     area: &mut Area,
     out: &mut Targets,
-    one_heads: &mut Heads,
-    one_keys: &mut Keys,
-    one_kept: &mut Kept,
-    two_heads: &mut Heads,
-    two_keys: &mut Keys,
-    two_kept: &mut Kept,
 ) -> State {
     let record = text_at(recording, at);
     let mut state = on_texts(record, unanswered(before), out);
     state = on_list(record, state, words, store, nodes, targets, out);
     state = on_snapshot(record, state, nodes, targets, area, out);
-    state = on_cache(record, state, 0, one_heads, one_keys, one_kept, area, out);
-    state = on_cache(record, state, 1, two_heads, two_keys, two_kept, area, out);
+    state = on_cache(record, state, area, out);
     hold_record(tally, record, state, out);
     state
 }
@@ -939,12 +970,6 @@ fn replay_all(
     targets: &mut Targets,
     area: &mut Area,
     out: &mut Targets,
-    one_heads: &mut Heads,
-    one_keys: &mut Keys,
-    one_kept: &mut Kept,
-    two_heads: &mut Heads,
-    two_keys: &mut Keys,
-    two_kept: &mut Kept,
 ) -> usize {
     let mut state = fresh();
     let mut at = FIRST_RECORD;
@@ -962,12 +987,6 @@ fn replay_all(
             targets,
             area,
             out,
-            one_heads,
-            one_keys,
-            one_kept,
-            two_heads,
-            two_keys,
-            two_kept,
         );
         at = after_text(recording, at);
     }
@@ -1022,12 +1041,6 @@ fn replay(recording: &[u8], tally: &mut Tally) -> usize {
     let mut targets = [0u32; ENTRIES];
     let mut area = [0u32; AREA_WORDS];
     let mut out = [0u32; ENTRIES];
-    let mut one_heads = [0u64; SLOT_NUMBERS];
-    let mut one_keys = [0u8; SLOT_BYTES];
-    let mut one_kept = [0u32; SLOT_TARGETS];
-    let mut two_heads = [0u64; SLOT_NUMBERS];
-    let mut two_keys = [0u8; SLOT_BYTES];
-    let mut two_kept = [0u32; SLOT_TARGETS];
     replay_all(
         tally,
         recording,
@@ -1037,12 +1050,6 @@ fn replay(recording: &[u8], tally: &mut Tally) -> usize {
         &mut targets,
         &mut area,
         &mut out,
-        &mut one_heads,
-        &mut one_keys,
-        &mut one_kept,
-        &mut two_heads,
-        &mut two_keys,
-        &mut two_kept,
     )
 }
 
@@ -1057,8 +1064,12 @@ fn replay_and_report(recording: &[u8]) {
 // Room for a recording.
 const RECORDING_BYTES: usize = 262144;
 
+fn read_and_replay(room: &mut [u8]) {
+    let n = io::read_full(0, room);
+    replay_and_report(first_bytes(room, n));
+}
+
 fn main() {
     let mut recording = [0u8; RECORDING_BYTES];
-    let n = io::read_full(0, &mut recording);
-    replay_and_report(&recording[..n]);
+    read_and_replay(&mut recording);
 }
