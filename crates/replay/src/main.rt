@@ -12,6 +12,7 @@
 // The folder host/compare/src/bin/record has the form: recording.rs that of every record, calls.rs the kinds.
 use router_c::CAnswer;
 use router_c::CCache;
+use router_c::CMadeSnapshot;
 use router_c::CResolved;
 use router_c::CSnapshot;
 use router_c::CStored;
@@ -115,19 +116,14 @@ fn first_bytes(bytes: &[u8], count: usize) -> &[u8] {
     &bytes[from..count]
 }
 
-// The bytes that a text takes, or a record: its length in two bytes, and itself.
-fn text_size(length: u16) -> usize {
-    (length as usize) + 2
-}
-
-// A text, or a record, behind its length.
+// A text, or a record, behind its length in two bytes.
 fn text_at(bytes: &[u8], at: usize) -> &[u8] {
     first_bytes(rest(bytes, ahead(at, 2)), short_at(bytes, at) as usize)
 }
 
 // The place behind it.
 fn after_text(bytes: &[u8], at: usize) -> usize {
-    ahead(at, text_size(short_at(bytes, at)))
+    ahead(at, ahead(2, short_at(bytes, at) as usize))
 }
 
 // The bytes that a list takes: a count of two bytes and as many words.
@@ -298,16 +294,6 @@ fn snapshot_of(nodes: u64, targets: u64, generation: u64, next: u64) -> CSnapsho
     }
 }
 
-fn fresh_list() -> List {
-    List {
-        entries: 0,
-        used: 0,
-        nodes: 0,
-        targets: 0,
-        generation: 0,
-    }
-}
-
 // An answer of a call on a cache, and the cache afterwards.
 fn given_of(number: u64, first: u64, cache: CCache) -> CResolved {
     CResolved {
@@ -346,7 +332,13 @@ fn fresh_cache() -> Cache {
 fn fresh() -> State {
     State {
         answer: answer_of(0, 0, 0, 0),
-        list: fresh_list(),
+        list: List {
+            entries: 0,
+            used: 0,
+            nodes: 0,
+            targets: 0,
+            generation: 0,
+        },
         snapshot: snapshot_of(0, 0, 0, 0),
         one: fresh_cache(),
         two: fresh_cache(),
@@ -366,12 +358,16 @@ fn with_list(state: State, list: List, answer: CAnswer) -> State {
     next
 }
 
-// ---- Calls on texts and on a list of targets. Every C call is made in one function of this and the next three parts.
+// ---- Calls on texts and on a list of targets. Here and in the next three parts each C call is made in one function,
+// whose comment says what the record holds for it, behind the answer.
+
+// The text.
 
 fn parse_literal(record: &[u8]) -> CAnswer {
     router_c::router_parse_literal(rest(record, CALL))
 }
 
+// The text.
 fn parse(record: &[u8]) -> CAnswer {
     router_c::router_parse(rest(record, CALL))
 }
@@ -401,13 +397,14 @@ fn single_home(record: &[u8], out: &mut Targets) -> CAnswer {
     router_c::router_single_home(first_words(out, short_at(record, CALL) as usize))
 }
 
+// This part comes first: what is no call of its kinds has no answer yet.
 fn on_texts(record: &[u8], state: State, out: &mut Targets) -> State {
     match kind_of(record) {
         PARSE_LITERAL => with_answer(state, parse_literal(record)),
         PARSE => with_answer(state, parse(record)),
         MATCHES => with_answer(state, matches(record)),
         SINGLE_HOME => with_answer(state, single_home(record, out)),
-        _ => state,
+        _ => with_answer(state, answer_of(NO_ANSWER, 0, 0, 0)),
     }
 }
 
@@ -453,45 +450,27 @@ fn match_table(
     without_peak(router_c::router_match(list.nodes, list.targets, nodes, targets, subject, out))
 }
 
-// The list with so many entries and bytes in use; the table stays.
-fn with_entries(list: List, entries: u64, used: u64) -> List {
-    let mut next = list;
-    next.entries = entries as usize;
-    next.used = used as usize;
-    next
-}
-
-// The list with the table that a build gave.
-fn with_table(list: List, nodes: u64, generation: u64) -> List {
-    let mut next = list;
-    next.nodes = nodes as usize;
-    next.targets = list.entries;
-    next.generation = generation;
-    next
-}
-
-// The original says of an insert only that it is accepted.
+// The list with other entries and bytes in use; the table stays. The original says of an insert only that it is done.
 fn inserted(state: State, a: CAnswer) -> State {
+    let mut list = state.list;
     if a.number != 0 {
         return with_answer(state, a);
     }
-    with_list(
-        state,
-        with_entries(state.list, a.first, a.second),
-        answer_of(0, 0, 0, 0),
-    )
+    list.entries = a.first as usize;
+    list.used = a.second as usize;
+    with_list(state, list, answer_of(0, 0, 0, 0))
 }
 
-// The original reports no worst case.
+// The list with another table. The original reports no worst case.
 fn built(state: State, a: CAnswer) -> State {
+    let mut list = state.list;
     if a.number != 0 {
         return with_answer(state, a);
     }
-    with_list(
-        state,
-        with_table(state.list, a.first, a.third),
-        answer_of(0, a.first, 0, a.third),
-    )
+    list.nodes = a.first as usize;
+    list.targets = list.entries;
+    list.generation = a.third;
+    with_list(state, list, answer_of(0, a.first, 0, a.third))
 }
 
 fn on_list(
@@ -505,7 +484,7 @@ fn on_list(
 ) -> State {
     let list = state.list;
     match kind_of(record) {
-        NEW_LIST => with_list(state, with_entries(list, 0, 0), answer_of(0, 0, 0, 0)),
+        NEW_LIST => inserted(state, answer_of(0, 0, 0, 0)),
         INSERT => inserted(state, insert(record, list, words, store)),
         BUILD => built(state, build(record, list, words, store, nodes, targets)),
         MATCH_TABLE => with_answer(state, match_table(record, list, nodes, targets, out)),
@@ -515,16 +494,8 @@ fn on_list(
 
 // ---- Calls on the snapshot.
 
-// A snapshot of the table that was built last: its generation counts as stamped.
-fn new_snapshot(list: List, nodes: &Nodes, targets: &Targets, area: &mut Area) -> CStored {
-    let m = router_c::router_snapshot_new(
-        list.nodes,
-        list.targets,
-        list.generation,
-        nodes,
-        targets,
-        area,
-    );
+// The generation of a snapshot that is made counts as stamped.
+fn made(m: CMadeSnapshot) -> CStored {
     CStored {
         number: m.number,
         stamped: m.generation,
@@ -535,16 +506,21 @@ fn new_snapshot(list: List, nodes: &Nodes, targets: &Targets, area: &mut Area) -
     }
 }
 
+// A snapshot of the table that was built last.
+fn new_snapshot(list: List, nodes: &Nodes, targets: &Targets, area: &mut Area) -> CStored {
+    made(router_c::router_snapshot_new(
+        list.nodes,
+        list.targets,
+        list.generation,
+        nodes,
+        targets,
+        area,
+    ))
+}
+
+// A snapshot of the table of no entries.
 fn empty_snapshot(area: &mut Area) -> CStored {
-    let m = router_c::router_snapshot_empty(area);
-    CStored {
-        number: m.number,
-        stamped: m.generation,
-        nodes: m.nodes,
-        targets: m.targets,
-        generation: m.generation,
-        next: m.next,
-    }
+    made(router_c::router_snapshot_empty(area))
 }
 
 // The table that was built last.
@@ -617,6 +593,7 @@ fn new_cache(record: &[u8], heads: &Heads, keys: &Keys, kept: &Kept) -> CResolve
     )
 }
 
+// Nothing.
 fn clear(cache: CCache) -> CResolved {
     given_of(0, 0, router_c::router_cache_clear(cache))
 }
@@ -660,6 +637,7 @@ fn cached_verdict(
     )
 }
 
+// Makes the call of a record, in the cache's areas.
 fn call_on_cache(
     record: &[u8],
     cache: CCache,
@@ -933,11 +911,6 @@ fn hold_record(tally: &mut Tally, record: &[u8], state: State, out: &Targets) {
 // The first record lies behind the number of records, in eight bytes.
 const FIRST_RECORD: usize = 8;
 
-// Before a call there is no answer.
-fn unanswered(state: State) -> State {
-    with_answer(state, answer_of(NO_ANSWER, 0, 0, 0))
-}
-
 // Makes the call of the record at a place and holds what it gives. Each part takes the records of its kinds alone.
 fn replay_next(
     tally: &mut Tally,
@@ -952,7 +925,7 @@ fn replay_next(
     out: &mut Targets,
 ) -> State {
     let record = text_at(recording, at);
-    let mut state = on_texts(record, unanswered(before), out);
+    let mut state = on_texts(record, before, out);
     state = on_list(record, state, words, store, nodes, targets, out);
     state = on_snapshot(record, state, nodes, targets, area, out);
     state = on_cache(record, state, area, out);
