@@ -1,10 +1,11 @@
-// Replays the recording on standard input: 6,585 calls, each with what the original answered. The call is made here, through the C calls of the router, and
-// each value that differs is said and counted.
+// Replays the recording on standard input: 6,585 calls, each with what the original answered. The call is made here,
+// through the C calls of the router, and each value that differs is said and counted.
 //
-// The recording (the file stdin) holds the grammar on short texts and on those at its limits; patterns against subjects; lists inserted, built and matched,
-// among them the 1,024 runs of ten tokens and the list that is refused; then stores, matches, resolves on two small caches, clears and verdicts in turn, with
-// what each cache holds after each call. It has no text that the original cannot be asked for (refusals 1 and 2), and none that the router would not keep in
-// a cache. It was made by the original alone, with the seed 1, and is made again, byte for byte, by
+// The recording (the file stdin) holds the grammar on short texts and on those at its limits; patterns against
+// subjects; lists inserted, built and matched, among them the 1,024 runs of ten tokens and the list that is refused;
+// then stores, matches, resolves on two small caches, clears and verdicts in turn, with what each cache holds after
+// each call. It has no text that the original cannot be asked for (refusals 1 and 2), and none that the router would
+// not keep in a cache. It was made by the original alone, with the seed 1, and is made again, byte for byte, by
 //
 //     cd host && cargo run --release --bin record ../crates/replay/stdin
 //
@@ -14,22 +15,48 @@ use router_c::CCache;
 use router_c::CMadeSnapshot;
 use router_c::CResolved;
 use router_c::CSnapshot;
-use router_c::router_build;
-use router_c::router_cache_clear;
-use router_c::router_cache_new;
-use router_c::router_insert;
-use router_c::router_match;
-use router_c::router_matches;
-use router_c::router_parse;
-use router_c::router_parse_literal;
-use router_c::router_resolve;
-use router_c::router_resolve_single_home;
-use router_c::router_resolve_single_home_cached;
-use router_c::router_single_home;
-use router_c::router_snapshot_empty;
-use router_c::router_snapshot_match;
-use router_c::router_snapshot_new;
-use router_c::router_store;
+use router_c::CStored;
+
+// ---- The areas that the calls are lent: room for 1,026 entries, for the 2,049 nodes of their table, and for eight
+// slots of each cache.
+
+const ENTRIES: usize = 1026;
+
+const ENTRY_NUMBERS: usize = ENTRIES * 3;
+
+const STORE_BYTES: usize = 19498;
+
+const NODE_WORDS: usize = 2049 * 16;
+
+const AREA_WORDS: usize = NODE_WORDS + ENTRIES;
+
+const SLOTS: usize = 8;
+
+// The most targets that a slot keeps.
+const MOST_KEPT: usize = 16;
+
+const SLOT_NUMBERS: usize = SLOTS * 3;
+
+const SLOT_BYTES: usize = SLOTS * 256;
+
+const SLOT_TARGETS: usize = SLOTS * MOST_KEPT;
+
+type Words = [usize; ENTRY_NUMBERS];
+
+type Store = [u8; STORE_BYTES];
+
+type Nodes = [u32; NODE_WORDS];
+
+// The targets of a table, and the output of a match.
+type Targets = [u32; ENTRIES];
+
+type Area = [u32; AREA_WORDS];
+
+type Heads = [u64; SLOT_NUMBERS];
+
+type Keys = [u8; SLOT_BYTES];
+
+type Kept = [u32; SLOT_TARGETS];
 
 // ---- Fields of a record, numbers lowest byte first. Every read is total: what lies outside is zeros or an empty part.
 
@@ -40,26 +67,13 @@ fn byte_at(bytes: &[u8], at: usize) -> u8 {
     0
 }
 
-fn short_of(a: u8, b: u8) -> u16 {
-    (a as u16) + (b as u16) * 256
-}
-
-fn word_of(a: u8, b: u8, c: u8, d: u8) -> u32 {
-    (a as u32) + (b as u32) * 256 + (c as u32) * 65536 + (d as u32) * 16777216
-}
-
-fn number_of(low: u32, high: u32) -> u64 {
-    (low as u64) + (high as u64) * 4294967296
-}
-
 // The place so many bytes ahead.
 fn ahead(at: usize, by: usize) -> usize {
     std::num::wrapping_add_usize(at, by)
 }
 
-// One byte.
-fn small_at(bytes: &[u8], at: usize) -> u64 {
-    byte_at(bytes, at) as u64
+fn short_of(a: u8, b: u8) -> u16 {
+    (a as u16) + (b as u16) * 256
 }
 
 // Two bytes.
@@ -67,41 +81,22 @@ fn short_at(bytes: &[u8], at: usize) -> u16 {
     short_of(byte_at(bytes, at), byte_at(bytes, ahead(at, 1)))
 }
 
+fn word_of(low: u16, high: u16) -> u32 {
+    (low as u32) + (high as u32) * 65536
+}
+
 // Four bytes.
 fn word_at(bytes: &[u8], at: usize) -> u32 {
-    word_of(
-        byte_at(bytes, at),
-        byte_at(bytes, ahead(at, 1)),
-        byte_at(bytes, ahead(at, 2)),
-        byte_at(bytes, ahead(at, 3)),
-    )
+    word_of(short_at(bytes, at), short_at(bytes, ahead(at, 2)))
+}
+
+fn number_of(low: u32, high: u32) -> u64 {
+    (low as u64) + (high as u64) * 4294967296
 }
 
 // Eight bytes.
 fn number_at(bytes: &[u8], at: usize) -> u64 {
     number_of(word_at(bytes, at), word_at(bytes, ahead(at, 4)))
-}
-
-// The bytes that a count and so many words take.
-fn list_size(count: u16) -> usize {
-    (count as usize) * 4 + 2
-}
-
-// The place behind a list: a count of two bytes and as many words.
-fn after_list(bytes: &[u8], at: usize) -> usize {
-    ahead(at, list_size(short_at(bytes, at)))
-}
-
-// So many bytes from a place on, or none if they are not all there.
-fn part(bytes: &[u8], at: usize, count: usize) -> &[u8] {
-    if bytes.len() < at {
-        return &bytes[..0];
-    }
-    if bytes.len() - at < count {
-        return &bytes[..0];
-    }
-    let end = at + count;
-    &bytes[at..end]
 }
 
 // The bytes from a place on.
@@ -112,192 +107,147 @@ fn rest(bytes: &[u8], at: usize) -> &[u8] {
     &bytes[at..]
 }
 
-// So many words from a place on, or none if they are not all there.
-fn words_part(words: &[u32], at: usize, count: usize) -> &[u32] {
-    if words.len() < at {
+// The first so many bytes, or none if they are not all there.
+fn first_bytes(bytes: &[u8], count: usize) -> &[u8] {
+    if bytes.len() < count {
+        return &bytes[..0];
+    }
+    let from: usize = 0;
+    &bytes[from..count]
+}
+
+// A text, or a record, behind its length in two bytes.
+fn text_at(bytes: &[u8], at: usize) -> &[u8] {
+    first_bytes(rest(bytes, ahead(at, 2)), short_at(bytes, at) as usize)
+}
+
+// The place behind it.
+fn after_text(bytes: &[u8], at: usize) -> usize {
+    ahead(at, ahead(2, short_at(bytes, at) as usize))
+}
+
+// The bytes that a list takes: a count of two bytes and as many words.
+fn list_size(count: u16) -> usize {
+    (count as usize) * 4 + 2
+}
+
+// What stands behind a list.
+fn after_list(bytes: &[u8], at: usize) -> &[u8] {
+    rest(bytes, ahead(at, list_size(short_at(bytes, at))))
+}
+
+// The first so many words, or none if they are not all there.
+fn first_words(words: &[u32], count: usize) -> &[u32] {
+    if words.len() < count {
         return &words[..0];
     }
-    if words.len() - at < count {
+    let from: usize = 0;
+    &words[from..count]
+}
+
+// The numbers of the first so many entries, or none if they are not all there.
+fn first_entries(words: &[usize], entries: usize) -> &[usize] {
+    let end = ahead(entries, ahead(entries, entries));
+    if words.len() < end {
         return &words[..0];
     }
-    let end = at + count;
-    &words[at..end]
+    let from: usize = 0;
+    &words[from..end]
 }
 
-// So many numbers from a place on, or none if they are not all there.
-fn numbers_part(numbers: &[usize], at: usize, count: usize) -> &[usize] {
-    if numbers.len() < at {
-        return &numbers[..0];
-    }
-    if numbers.len() - at < count {
-        return &numbers[..0];
-    }
-    let end = at + count;
-    &numbers[at..end]
+// ---- Where a record has what: its kind, then the answer that the original gave, a number and two values.
+
+const KIND: usize = 0;
+
+const NUMBER: usize = 1;
+
+const FIRST: usize = 2;
+
+const SECOND: usize = 6;
+
+// What the call takes, and what else it answered.
+const CALL: usize = 10;
+
+// The same behind a generation.
+const CALL_AND_GENERATION: usize = 18;
+
+// Of a call on a cache: which, and then, as they are afterwards, the subjects kept, the walks and the generation.
+const WHICH: usize = 10;
+
+const SUBJECTS: usize = 11;
+
+const WALKS: usize = 15;
+
+const GENERATION: usize = 23;
+
+const CACHE_CALL: usize = 31;
+
+// A value that a record of its kind does not have.
+const NOWHERE: usize = 0;
+
+// The kinds.
+
+const PARSE_LITERAL: usize = 1;
+
+const PARSE: usize = 2;
+
+const MATCHES: usize = 3;
+
+const SINGLE_HOME: usize = 4;
+
+const NEW_LIST: usize = 5;
+
+const INSERT: usize = 6;
+
+const BUILD: usize = 7;
+
+const MATCH_TABLE: usize = 8;
+
+const NEW_SNAPSHOT: usize = 9;
+
+const EMPTY_SNAPSHOT: usize = 10;
+
+const STORE: usize = 11;
+
+const MATCH_SNAPSHOT: usize = 12;
+
+const VERDICT: usize = 13;
+
+const NEW_CACHE: usize = 14;
+
+const CLEAR: usize = 15;
+
+const RESOLVE: usize = 16;
+
+const CACHED_VERDICT: usize = 17;
+
+// The number of the answer where no call is made, as for a record of another kind: no record has it.
+const NO_ANSWER: u64 = 256;
+
+fn kind_of(record: &[u8]) -> usize {
+    byte_at(record, KIND) as usize
 }
 
-// ---- What is counted, in a list of numbers: differences at 0, the records of each kind at the kind, all records at 20; and what is said of a difference.
-
-const DIFFERENCES: usize = 0;
-
-const RECORDS: usize = 20;
-
-fn say(text: &[u8]) {
-    io::write_all(1, text);
-}
-
-fn say_number(n: u64) {
-    io::print_decimal(1, n);
-}
-
-// One more at a place.
-fn count(tally: &mut [u64], place: usize) {
-    if place < tally.len() {
-        tally[place] = std::num::wrapping_add_u64(tally[place], 1);
-    }
-}
-
-// The number at a place.
-fn counted(tally: &[u64], place: usize) -> u64 {
-    if place < tally.len() {
-        return tally[place];
-    }
-    0
-}
-
-// Counts and says a difference, unless what came out is what is recorded.
-fn hold(tally: &mut [u64], what: &[u8], came: u64, recorded: u64) {
-    if came == recorded {
-        return;
-    }
-    count(tally, DIFFERENCES);
-    say(b"record ");
-    say_number(counted(tally, RECORDS));
-    say(b": ");
-    say(what);
-    say(b" ");
-    say_number(came);
-    say(b", recorded ");
-    say_number(recorded);
-    say(b"\n");
-}
-
-// Counts a record.
-fn count_record(tally: &mut [u64], record: &[u8]) {
-    count(tally, RECORDS);
-    count(tally, small_at(record, 0) as usize);
-}
-
-// Counts a record of a kind that there is not, as a difference.
-fn unknown(tally: &mut [u64], record: &[u8]) {
-    count_record(tally, record);
-    count(tally, DIFFERENCES);
-    say(b"record ");
-    say_number(counted(tally, RECORDS));
-    say(b": no such kind\n");
-}
-
-// Counts a record, and holds an answer to the number and the two values at its start.
-fn hold_answer(tally: &mut [u64], record: &[u8], number: u64, first: u64, second: u64) {
-    count_record(tally, record);
-    hold(tally, b"answer", number, small_at(record, 1));
-    hold(tally, b"first value", first, word_at(record, 2) as u64);
-    hold(tally, b"second value", second, word_at(record, 6) as u64);
-}
-
-fn wide(word: u32) -> u64 {
-    word as u64
-}
-
-// Holds a list to the one at a place of the record.
-fn hold_list(tally: &mut [u64], record: &[u8], at: usize, list: &[u32]) {
-    hold(
-        tally,
-        b"length",
-        list.len() as u64,
-        short_at(record, at) as u64,
-    );
-    let mut place = ahead(at, 2);
-    let mut i = 0;
-    while i < list.len() {
-        hold(
-            tally,
-            b"target",
-            wide(list[i]),
-            word_at(record, place) as u64,
-        );
-        place = ahead(place, 4);
-        i += 1;
+// Where a record has the generation that a call answers, or that of a table.
+fn generation_at(kind: usize, number: u64) -> usize {
+    match kind {
+        BUILD => if number == 0 { CALL } else { NOWHERE },
+        NEW_SNAPSHOT | EMPTY_SNAPSHOT | STORE | MATCH_SNAPSHOT => CALL,
+        _ => NOWHERE,
     }
 }
 
-// An answer as the original gives it: where it accepts, the second value is not its own.
-fn hold_first(tally: &mut [u64], record: &[u8], a: CAnswer) {
-    if a.number == 0 {
-        hold_answer(tally, record, 0, a.first, 0);
-        return;
-    }
-    hold_answer(tally, record, a.number, a.first, a.second);
-}
-
-// ---- Calls on texts and on a list of targets, with no state.
-
-fn parse_literal(tally: &mut [u64], record: &[u8]) {
-    let a = router_parse_literal(rest(record, 10));
-    hold_answer(tally, record, a.number, a.first, a.second);
-}
-
-fn parse(tally: &mut [u64], record: &[u8]) {
-    let a = router_parse(rest(record, 10));
-    hold_answer(tally, record, a.number, a.first, a.second);
-}
-
-fn matches(tally: &mut [u64], record: &[u8]) {
-    let length = short_at(record, 10) as usize;
-    let a = router_matches(part(record, 12, length), rest(record, ahead(12, length)));
-    hold_answer(tally, record, a.number, a.first, a.second);
-}
-
-// The words of a record from a place on go over the first words of the output.
-fn load(record: &[u8], at: usize, out: &mut [u32]) {
-    let mut place = at;
-    let mut i = 0;
-    while i < out.len() {
-        out[i] = word_at(record, place);
-        place = ahead(place, 4);
-        i += 1;
+// Where a record has the list that a call gives.
+fn list_at(kind: usize) -> usize {
+    match kind {
+        MATCH_TABLE => CALL,
+        MATCH_SNAPSHOT => CALL_AND_GENERATION,
+        RESOLVE => CACHE_CALL,
+        _ => NOWHERE,
     }
 }
 
-// The list is at 10.
-fn single_home(tally: &mut [u64], record: &[u8], out: &mut [u32]) {
-    load(record, 12, out);
-    let a = router_single_home(words_part(out, 0, short_at(record, 10) as usize));
-    hold_answer(tally, record, a.number, a.first, a.second);
-}
-
-// Kinds 1 to 4.
-fn replay_text_record(tally: &mut [u64], record: &[u8], kind: u64, out: &mut [u32]) {
-    if kind == 1 {
-        parse_literal(tally, record);
-        return;
-    }
-    if kind == 2 {
-        parse(tally, record);
-        return;
-    }
-    if kind == 3 {
-        matches(tally, record);
-        return;
-    }
-    if kind == 4 {
-        single_home(tally, record, out);
-        return;
-    }
-    unknown(tally, record);
-}
-
-// ---- Calls on a list of patterns and on its table.
+// ---- What the calls leave for later ones.
 
 // Entries and bytes in use, and the counts and the generation of the table that was built last.
 struct List {
@@ -308,183 +258,280 @@ struct List {
     pub generation: u64,
 }
 
-// The list emptied; the table stays.
-fn new_list(tally: &mut [u64], record: &[u8], list: List) -> List {
-    hold_answer(tally, record, 0, 0, 0);
-    List {
-        entries: 0,
-        used: 0,
-        nodes: list.nodes,
-        targets: list.targets,
-        generation: list.generation,
+// What the last call on a cache gave, the cache's state in it, and the cache's areas.
+struct Cache {
+    pub given: CResolved,
+    pub heads: Heads,
+    pub keys: Keys,
+    pub kept: Kept,
+}
+
+// The answer to the last call, as the original gives it, and what later calls take: the list with its table, the
+// snapshot and the two caches.
+struct State {
+    pub answer: CAnswer,
+    pub list: List,
+    pub snapshot: CSnapshot,
+    pub one: Cache,
+    pub two: Cache,
+}
+
+fn answer_of(number: u64, first: u64, second: u64, third: u64) -> CAnswer {
+    CAnswer {
+        number,
+        first,
+        second,
+        third,
     }
 }
 
-// The list after an insert: the original says of an accepted one only that it is accepted.
-fn inserted(tally: &mut [u64], record: &[u8], list: List, a: CAnswer) -> List {
-    if a.number == 0 {
-        hold_answer(tally, record, 0, 0, 0);
-        return List {
-            entries: a.first as usize,
-            used: a.second as usize,
-            nodes: list.nodes,
-            targets: list.targets,
-            generation: list.generation,
-        };
-    }
-    hold_answer(tally, record, a.number, a.first, a.second);
-    list
-}
-
-// The target is at 10, the pattern behind it.
-fn insert(
-    tally: &mut [u64],
-    record: &[u8],
-    list: List,
-    words: &mut [usize],
-    store: &mut [u8],
-) -> List {
-    let target = word_at(record, 10);
-    let pattern = rest(record, 14);
-    let a = router_insert(list.entries, list.used, words, store, pattern, target);
-    inserted(tally, record, list, a)
-}
-
-// The table after a build: the original gives the node count and the generation.
-fn built(tally: &mut [u64], record: &[u8], list: List, a: CAnswer) -> List {
-    hold_first(tally, record, a);
-    if a.number == 0 {
-        hold(tally, b"generation", a.third, number_at(record, 10));
-        return List {
-            entries: list.entries,
-            used: list.used,
-            nodes: a.first as usize,
-            targets: list.entries,
-            generation: a.third,
-        };
-    }
-    list
-}
-
-// The generation is at 10.
-fn build(
-    tally: &mut [u64],
-    record: &[u8],
-    list: List,
-    words: &[usize],
-    store: &[u8],
-    nodes: &mut [u32],
-    targets: &mut [u32],
-) -> List {
-    let numbers = ahead(list.entries, ahead(list.entries, list.entries));
-    let generation = number_at(record, 10);
-    let a = router_build(
-        numbers_part(words, 0, numbers),
-        store,
-        nodes,
-        targets,
+fn snapshot_of(nodes: u64, targets: u64, generation: u64, next: u64) -> CSnapshot {
+    CSnapshot {
+        nodes: nodes as usize,
+        targets: targets as usize,
         generation,
-    );
-    built(tally, record, list, a)
-}
-
-// The length of the list that a match wrote.
-fn length_of(a: CAnswer) -> usize {
-    if a.number == 0 {
-        return a.first as usize;
+        next,
     }
-    0
 }
 
-// The list is at 10, the subject behind it. The original reports no peak.
-fn match_list(
-    tally: &mut [u64],
+// An answer of a call on a cache, and the cache afterwards.
+fn given_of(number: u64, first: u64, cache: CCache) -> CResolved {
+    CResolved {
+        number,
+        first,
+        second: 0,
+        third: 0,
+        capacity: cache.capacity as u64,
+        used: cache.used as u64,
+        generation: cache.generation,
+        tick: cache.tick,
+        walks: cache.walks,
+    }
+}
+
+fn cache_of(capacity: u64, used: u64, generation: u64, tick: u64, walks: u64) -> CCache {
+    CCache {
+        capacity: capacity as usize,
+        used: used as usize,
+        generation,
+        tick,
+        walks,
+    }
+}
+
+fn fresh_cache() -> Cache {
+    Cache {
+        given: given_of(0, 0, cache_of(0, 0, 0, 0, 0)),
+        heads: [0u64; SLOT_NUMBERS],
+        keys: [0u8; SLOT_BYTES],
+        kept: [0u32; SLOT_TARGETS],
+    }
+}
+
+// Nothing is made yet.
+fn fresh() -> State {
+    State {
+        answer: answer_of(0, 0, 0, 0),
+        list: List {
+            entries: 0,
+            used: 0,
+            nodes: 0,
+            targets: 0,
+            generation: 0,
+        },
+        snapshot: snapshot_of(0, 0, 0, 0),
+        one: fresh_cache(),
+        two: fresh_cache(),
+    }
+}
+
+fn with_answer(state: State, answer: CAnswer) -> State {
+    let mut next = state;
+    next.answer = answer;
+    next
+}
+
+fn with_list(state: State, list: List, answer: CAnswer) -> State {
+    let mut next = state;
+    next.answer = answer;
+    next.list = list;
+    next
+}
+
+// ---- Calls on texts and on a list of targets. Here and in the next three parts each C call is made in one function,
+// whose comment says what the record holds for it, behind the answer.
+
+// The text.
+
+fn parse_literal(record: &[u8]) -> CAnswer {
+    router_c::router_parse_literal(rest(record, CALL))
+}
+
+// The text.
+fn parse(record: &[u8]) -> CAnswer {
+    router_c::router_parse(rest(record, CALL))
+}
+
+// The pattern, then the subject.
+fn matches(record: &[u8]) -> CAnswer {
+    router_c::router_matches(
+        text_at(record, CALL),
+        rest(record, after_text(record, CALL)),
+    )
+}
+
+// The words of a record from a place on go over the output.
+fn load(record: &[u8], at: usize, out: &mut Targets) {
+    let mut place = at;
+    let mut i = 0;
+    while i < ENTRIES {
+        out[i] = word_at(record, place);
+        place = ahead(place, 4);
+        i += 1;
+    }
+}
+
+// The list.
+fn single_home(record: &[u8], out: &mut Targets) -> CAnswer {
+    load(record, ahead(CALL, 2), out);
+    router_c::router_single_home(first_words(out, short_at(record, CALL) as usize))
+}
+
+// This part comes first: what is no call of its kinds has no answer yet.
+fn on_texts(record: &[u8], state: State, out: &mut Targets) -> State {
+    match kind_of(record) {
+        PARSE_LITERAL => with_answer(state, parse_literal(record)),
+        PARSE => with_answer(state, parse(record)),
+        MATCHES => with_answer(state, matches(record)),
+        SINGLE_HOME => with_answer(state, single_home(record, out)),
+        _ => with_answer(state, answer_of(NO_ANSWER, 0, 0, 0)),
+    }
+}
+
+// ---- Calls on a list of patterns and on its table.
+
+// The target, then the pattern.
+fn insert(record: &[u8], list: List, words: &mut Words, store: &mut Store) -> CAnswer {
+    let target = word_at(record, CALL);
+    let pattern = rest(record, ahead(CALL, 4));
+    router_c::router_insert(list.entries, list.used, words, store, pattern, target)
+}
+
+// The generation.
+fn build(
     record: &[u8],
     list: List,
-    nodes: &[u32],
-    targets: &[u32],
-    out: &mut [u32],
-) {
-    let subject = rest(record, after_list(record, 10));
-    let a = router_match(list.nodes, list.targets, nodes, targets, subject, out);
-    hold_first(tally, record, a);
-    hold_list(tally, record, 10, words_part(out, 0, length_of(a)));
+    words: &Words,
+    store: &Store,
+    nodes: &mut Nodes,
+    targets: &mut Targets,
+) -> CAnswer {
+    let entries = first_entries(words, list.entries);
+    router_c::router_build(entries, store, nodes, targets, number_at(record, CALL))
 }
 
-// Kinds 5 to 8.
-fn replay_list_record(
-    tally: &mut [u64],
+// The original reports no peak.
+fn without_peak(a: CAnswer) -> CAnswer {
+    if a.number != 0 {
+        return a;
+    }
+    answer_of(0, a.first, 0, a.third)
+}
+
+// The list, then the subject.
+fn match_table(
     record: &[u8],
-    kind: u64,
     list: List,
-    words: &mut [usize],
-    store: &mut [u8],
-    nodes: &mut [u32],
-    targets: &mut [u32],
-    out: &mut [u32],
-) -> List {
-    if kind == 5 {
-        return new_list(tally, record, list);
+    nodes: &Nodes,
+    targets: &Targets,
+    out: &mut Targets,
+) -> CAnswer {
+    let subject = after_list(record, CALL);
+    without_peak(router_c::router_match(list.nodes, list.targets, nodes, targets, subject, out))
+}
+
+// The list with other entries and bytes in use; the table stays. The original says of an insert only that it is done.
+fn inserted(state: State, a: CAnswer) -> State {
+    let mut list = state.list;
+    if a.number != 0 {
+        return with_answer(state, a);
     }
-    if kind == 6 {
-        return insert(tally, record, list, words, store);
+    list.entries = a.first as usize;
+    list.used = a.second as usize;
+    with_list(state, list, answer_of(0, 0, 0, 0))
+}
+
+// The list with another table. The original reports no worst case.
+fn built(state: State, a: CAnswer) -> State {
+    let mut list = state.list;
+    if a.number != 0 {
+        return with_answer(state, a);
     }
-    if kind == 7 {
-        return build(tally, record, list, words, store, nodes, targets);
+    list.nodes = a.first as usize;
+    list.targets = list.entries;
+    list.generation = a.third;
+    with_list(state, list, answer_of(0, a.first, 0, a.third))
+}
+
+fn on_list(
+    record: &[u8],
+    state: State,
+    words: &mut Words,
+    store: &mut Store,
+    nodes: &mut Nodes,
+    targets: &mut Targets,
+    out: &mut Targets,
+) -> State {
+    let list = state.list;
+    match kind_of(record) {
+        NEW_LIST => inserted(state, answer_of(0, 0, 0, 0)),
+        INSERT => inserted(state, insert(record, list, words, store)),
+        BUILD => built(state, build(record, list, words, store, nodes, targets)),
+        MATCH_TABLE => with_answer(state, match_table(record, list, nodes, targets, out)),
+        _ => state,
     }
-    match_list(tally, record, list, nodes, targets, out);
-    list
 }
 
 // ---- Calls on the snapshot.
 
-// The generation afterwards is at 10.
-fn made(tally: &mut [u64], record: &[u8], m: CMadeSnapshot) -> CSnapshot {
-    hold_answer(tally, record, m.number, 0, 0);
-    hold(tally, b"generation", m.generation, number_at(record, 10));
-    CSnapshot {
-        nodes: m.nodes as usize,
-        targets: m.targets as usize,
+// The generation of a snapshot that is made counts as stamped.
+fn made(m: CMadeSnapshot) -> CStored {
+    CStored {
+        number: m.number,
+        stamped: m.generation,
+        nodes: m.nodes,
+        targets: m.targets,
         generation: m.generation,
         next: m.next,
     }
 }
 
 // A snapshot of the table that was built last.
-fn new_snapshot(
-    tally: &mut [u64],
-    record: &[u8],
-    list: List,
-    nodes: &[u32],
-    targets: &[u32],
-    area: &mut [u32],
-) -> CSnapshot {
-    let m = router_snapshot_new(
+fn new_snapshot(list: List, nodes: &Nodes, targets: &Targets, area: &mut Area) -> CStored {
+    made(router_c::router_snapshot_new(
         list.nodes,
         list.targets,
         list.generation,
         nodes,
         targets,
         area,
-    );
-    made(tally, record, m)
+    ))
 }
 
-fn empty_snapshot(tally: &mut [u64], record: &[u8], area: &mut [u32]) -> CSnapshot {
-    made(tally, record, router_snapshot_empty(area))
+// A snapshot of the table of no entries.
+fn empty_snapshot(area: &mut Area) -> CStored {
+    made(router_c::router_snapshot_empty(area))
 }
 
-// The table that was built last is stored. The generation stamped is at 10, that of the snapshot afterwards at 18.
+// The table that was built last.
 fn store(
-    tally: &mut [u64],
-    record: &[u8],
-    list: List,
     snapshot: CSnapshot,
-    nodes: &[u32],
-    targets: &[u32],
-    area: &mut [u32],
-) -> CSnapshot {
-    let s = router_store(
+    list: List,
+    nodes: &Nodes,
+    targets: &Targets,
+    area: &mut Area,
+) -> CStored {
+    router_c::router_store(
         snapshot,
         list.nodes,
         list.targets,
@@ -492,566 +539,510 @@ fn store(
         nodes,
         targets,
         area,
-    );
-    hold_answer(tally, record, s.number, 0, 0);
-    hold(
-        tally,
-        b"generation stamped",
-        s.stamped,
-        number_at(record, 10),
-    );
-    hold(tally, b"generation", s.generation, number_at(record, 18));
-    CSnapshot {
-        nodes: s.nodes as usize,
-        targets: s.targets as usize,
-        generation: s.generation,
-        next: s.next,
-    }
+    )
 }
 
-// The generation is at 10, the list at 18, the subject behind it.
-fn match_snapshot(
-    tally: &mut [u64],
+fn stored(state: State, s: CStored) -> State {
+    let mut next = state;
+    next.answer = answer_of(s.number, 0, 0, s.stamped);
+    next.snapshot = snapshot_of(s.nodes, s.targets, s.generation, s.next);
+    next
+}
+
+// The generation, the list, then the subject.
+fn match_snapshot(record: &[u8], snapshot: CSnapshot, area: &Area, out: &mut Targets) -> CAnswer {
+    let subject = after_list(record, CALL_AND_GENERATION);
+    without_peak(router_c::router_snapshot_match(snapshot, area, subject, out))
+}
+
+// The subject.
+fn verdict(record: &[u8], snapshot: CSnapshot, area: &Area, out: &mut Targets) -> CAnswer {
+    let v = router_c::router_resolve_single_home(snapshot, area, rest(record, CALL), out);
+    answer_of(v.number, v.kind, v.value, 0)
+}
+
+fn on_snapshot(
     record: &[u8],
-    snapshot: CSnapshot,
-    area: &[u32],
-    out: &mut [u32],
-) {
-    let subject = rest(record, after_list(record, 18));
-    let a = router_snapshot_match(snapshot, area, subject, out);
-    hold_first(tally, record, a);
-    hold(tally, b"generation", a.third, number_at(record, 10));
-    hold_list(tally, record, 18, words_part(out, 0, length_of(a)));
-}
-
-// The subject is at 10.
-fn verdict(tally: &mut [u64], record: &[u8], snapshot: CSnapshot, area: &[u32], out: &mut [u32]) {
-    let v = router_resolve_single_home(snapshot, area, rest(record, 10), out);
-    hold_answer(tally, record, v.number, v.kind, v.value);
-}
-
-// Kinds 9 to 13.
-fn replay_snapshot_record(
-    tally: &mut [u64],
-    record: &[u8],
-    kind: u64,
-    list: List,
-    snapshot: CSnapshot,
-    nodes: &[u32],
-    targets: &[u32],
-    area: &mut [u32],
-    out: &mut [u32],
-) -> CSnapshot {
-    if kind == 9 {
-        return new_snapshot(tally, record, list, nodes, targets, area);
-    }
-    if kind == 10 {
-        return empty_snapshot(tally, record, area);
-    }
-    if kind == 11 {
-        return store(tally, record, list, snapshot, nodes, targets, area);
-    }
-    if kind == 12 {
-        match_snapshot(tally, record, snapshot, area, out);
-        return snapshot;
-    }
-    verdict(tally, record, snapshot, area, out);
-    snapshot
-}
-
-// ---- Calls on a cache. A record has at 10 which cache; then, as they are afterwards, the subjects kept at 11, the walks at 15 and the generation at 23.
-
-// A cache as a call left it.
-fn left(tally: &mut [u64], record: &[u8], cache: CCache) -> CCache {
-    hold(
-        tally,
-        b"subjects kept",
-        cache.used as u64,
-        word_at(record, 11) as u64,
-    );
-    hold(tally, b"walks", cache.walks, number_at(record, 15));
-    hold(
-        tally,
-        b"generation",
-        cache.generation,
-        number_at(record, 23),
-    );
-    cache
-}
-
-// The capacity asked for is at 31; the one that the cache has is the first value.
-fn new_cache(tally: &mut [u64], record: &[u8], heads: &[u64], keys: &[u8], kept: &[u32]) -> CCache {
-    let capacity = word_at(record, 31) as usize;
-    let m = router_cache_new(capacity, heads, keys, kept);
-    hold_answer(tally, record, m.number, m.capacity, 0);
-    let cache = CCache {
-        capacity: m.capacity as usize,
-        used: m.used as usize,
-        generation: m.generation,
-        tick: m.tick,
-        walks: m.walks,
-    };
-    left(tally, record, cache)
-}
-
-fn clear(tally: &mut [u64], record: &[u8], cache: CCache) -> CCache {
-    hold_answer(tally, record, 0, 0, 0);
-    left(tally, record, router_cache_clear(cache))
-}
-
-fn cache_of(r: CResolved) -> CCache {
-    CCache {
-        capacity: r.capacity as usize,
-        used: r.used as usize,
-        generation: r.generation,
-        tick: r.tick,
-        walks: r.walks,
+    state: State,
+    nodes: &Nodes,
+    targets: &Targets,
+    area: &mut Area,
+    out: &mut Targets,
+) -> State {
+    let list = state.list;
+    let snapshot = state.snapshot;
+    match kind_of(record) {
+        NEW_SNAPSHOT => stored(state, new_snapshot(list, nodes, targets, area)),
+        EMPTY_SNAPSHOT => stored(state, empty_snapshot(area)),
+        STORE => stored(state, store(snapshot, list, nodes, targets, area)),
+        MATCH_SNAPSHOT => with_answer(state, match_snapshot(record, snapshot, area, out)),
+        VERDICT => with_answer(state, verdict(record, snapshot, area, out)),
+        _ => state,
     }
 }
 
-// The list that a resolve gives, at 31: a part of what the cache keeps, or of the output.
-fn hold_resolved(tally: &mut [u64], record: &[u8], r: CResolved, kept: &[u32], out: &[u32]) {
-    let from = r.second as usize;
-    let count = r.third as usize;
-    if r.number != 0 {
-        hold_answer(tally, record, r.number, r.first, r.second);
-        return;
-    }
-    hold_answer(tally, record, 0, r.third, 0);
-    if r.first == 0 {
-        hold_list(tally, record, 31, words_part(kept, from, count));
-        return;
-    }
-    hold_list(tally, record, 31, words_part(out, from, count));
+// ---- Calls on a cache. What they give is an answer, and the cache as they leave it.
+
+// The capacity asked for; the one that the cache has is the first value.
+fn new_cache(record: &[u8], heads: &Heads, keys: &Keys, kept: &Kept) -> CResolved {
+    let m = router_c::router_cache_new(word_at(record, CACHE_CALL) as usize, heads, keys, kept);
+    given_of(
+        m.number,
+        m.capacity,
+        cache_of(m.capacity, m.used, m.generation, m.tick, m.walks),
+    )
 }
 
-// The list is at 31, the subject behind it.
+// Nothing.
+fn clear(cache: CCache) -> CResolved {
+    given_of(0, 0, router_c::router_cache_clear(cache))
+}
+
+// The list, then the subject.
 fn resolve(
-    tally: &mut [u64],
     record: &[u8],
     cache: CCache,
-    heads: &mut [u64],
-    keys: &mut [u8],
-    kept: &mut [u32],
+    heads: &mut Heads,
+    keys: &mut Keys,
+    kept: &mut Kept,
     snapshot: CSnapshot,
-    area: &[u32],
-    out: &mut [u32],
-) -> CCache {
-    let subject = rest(record, after_list(record, 31));
-    let r = router_resolve(cache, heads, keys, kept, snapshot, area, subject, out);
-    hold_resolved(tally, record, r, kept, out);
-    left(tally, record, cache_of(r))
+    area: &Area,
+    out: &mut Targets,
+) -> CResolved {
+    let subject = after_list(record, CACHE_CALL);
+    router_c::router_resolve(cache, heads, keys, kept, snapshot, area, subject, out)
 }
 
-// The subject is at 31.
+// The subject.
 fn cached_verdict(
-    tally: &mut [u64],
     record: &[u8],
     cache: CCache,
-    heads: &mut [u64],
-    keys: &mut [u8],
-    kept: &mut [u32],
+    heads: &mut Heads,
+    keys: &mut Keys,
+    kept: &mut Kept,
     snapshot: CSnapshot,
-    area: &[u32],
-    out: &mut [u32],
-) -> CCache {
-    let r = router_resolve_single_home_cached(
+    area: &Area,
+    out: &mut Targets,
+) -> CResolved {
+    let subject = rest(record, CACHE_CALL);
+    router_c::router_resolve_single_home_cached(
         cache,
         heads,
         keys,
         kept,
         snapshot,
         area,
-        rest(record, 31),
+        subject,
+        out,
+    )
+}
+
+// Makes the call of a record, in the cache's areas.
+fn call_on_cache(
+    record: &[u8],
+    cache: CCache,
+    heads: &mut Heads,
+    keys: &mut Keys,
+    kept: &mut Kept,
+    snapshot: CSnapshot,
+    area: &Area,
+    out: &mut Targets,
+) -> CResolved {
+    match kind_of(record) {
+        NEW_CACHE => new_cache(record, heads, keys, kept),
+        CLEAR => clear(cache),
+        RESOLVE => resolve(record, cache, heads, keys, kept, snapshot, area, out),
+        _ => cached_verdict(record, cache, heads, keys, kept, snapshot, area, out),
+    }
+}
+
+fn kept_at(kept: &Kept, at: usize) -> u32 {
+    if at < SLOT_TARGETS {
+        return kept[at];
+    }
+    0
+}
+
+// The targets that a slot keeps go over the output, where a walk writes its list.
+fn show(kept: &Kept, from: usize, out: &mut Targets) {
+    let mut i = 0;
+    while i < MOST_KEPT {
+        out[i] = kept_at(kept, ahead(from, i));
+        i += 1;
+    }
+}
+
+// A list that lies in what the cache keeps is shown.
+fn show_hit(given: CResolved, kept: &Kept, out: &mut Targets) {
+    if given.first == 0 {
+        show(kept, given.second as usize, out);
+    }
+}
+
+// The state in what the last call gave.
+fn state_in(r: CResolved) -> CCache {
+    cache_of(r.capacity, r.used, r.generation, r.tick, r.walks)
+}
+
+// The cache after the call of a record.
+fn call_cache(
+    record: &[u8],
+    cache: Cache,
+    snapshot: CSnapshot,
+    area: &Area,
+    out: &mut Targets,
+) -> Cache {
+    let mut heads = cache.heads;
+    let mut keys = cache.keys;
+    let mut kept = cache.kept;
+    let state = state_in(cache.given);
+    let given = call_on_cache(
+        record,
+        state,
+        &mut heads,
+        &mut keys,
+        &mut kept,
+        snapshot,
+        area,
         out,
     );
-    hold_answer(tally, record, r.number, r.first, r.second);
-    left(tally, record, cache_of(r))
-}
-
-// Kinds 14 to 17.
-fn replay_cache_record(
-    tally: &mut [u64],
-    record: &[u8],
-    kind: u64,
-    cache: CCache,
-    heads: &mut [u64],
-    keys: &mut [u8],
-    kept: &mut [u32],
-    snapshot: CSnapshot,
-    area: &[u32],
-    out: &mut [u32],
-) -> CCache {
-    if kind == 14 {
-        return new_cache(tally, record, heads, keys, kept);
-    }
-    if kind == 15 {
-        return clear(tally, record, cache);
-    }
-    if kind == 16 {
-        return resolve(tally, record, cache, heads, keys, kept, snapshot, area, out);
-    }
-    if kind == 17 {
-        return cached_verdict(tally, record, cache, heads, keys, kept, snapshot, area, out);
-    }
-    unknown(tally, record);
-    cache
-}
-
-// ---- What the calls leave for later ones.
-
-// The place in the recording, the list with its table, the snapshot and the two caches.
-struct State {
-    pub at: usize,
-    pub list: List,
-    pub snapshot: CSnapshot,
-    pub one: CCache,
-    pub two: CCache,
-}
-
-fn fresh_list() -> List {
-    List {
-        entries: 0,
-        used: 0,
-        nodes: 0,
-        targets: 0,
-        generation: 0,
+    show_hit(given, &kept, out);
+    Cache {
+        given,
+        heads,
+        keys,
+        kept,
     }
 }
 
-fn fresh_snapshot() -> CSnapshot {
-    CSnapshot {
-        nodes: 0,
-        targets: 0,
-        generation: 0,
-        next: 0,
+// The cache that a record is about.
+fn cache_in(record: &[u8], state: State) -> Cache {
+    if byte_at(record, WHICH) == 0 {
+        return state.one;
     }
+    state.two
 }
 
-fn fresh_cache() -> CCache {
-    CCache {
-        capacity: 0,
-        used: 0,
-        generation: 0,
-        tick: 0,
-        walks: 0,
+// The original gives the list of a resolve, and not where it lies.
+fn answer_in(kind: usize, r: CResolved) -> CAnswer {
+    if kind == RESOLVE {
+        if r.number == 0 {
+            return answer_of(0, r.third, 0, 0);
+        }
     }
+    answer_of(r.number, r.first, r.second, 0)
 }
 
-// The first record is at 8, and nothing is made yet.
-fn fresh() -> State {
-    State {
-        at: 8,
-        list: fresh_list(),
-        snapshot: fresh_snapshot(),
-        one: fresh_cache(),
-        two: fresh_cache(),
-    }
-}
-
-// So many bytes ahead.
-fn moved(state: State, by: usize) -> State {
+fn with_cache(record: &[u8], state: State, cache: Cache) -> State {
     let mut next = state;
-    next.at = ahead(state.at, by);
-    next
-}
-
-fn with_list(state: State, list: List) -> State {
-    let mut next = state;
-    next.list = list;
-    next
-}
-
-fn with_snapshot(state: State, snapshot: CSnapshot) -> State {
-    let mut next = state;
-    next.snapshot = snapshot;
-    next
-}
-
-fn with_one(state: State, cache: CCache) -> State {
-    let mut next = state;
-    next.one = cache;
-    next
-}
-
-fn with_two(state: State, cache: CCache) -> State {
-    let mut next = state;
+    next.answer = answer_in(kind_of(record), cache.given);
+    if byte_at(record, WHICH) == 0 {
+        next.one = cache;
+        return next;
+    }
     next.two = cache;
     next
 }
 
-// ---- The whole recording.
-
-// A record of a call on the second cache, whose slots lie behind the eight of the first.
-fn replay_two(
-    tally: &mut [u64],
-    record: &[u8],
-    cache: CCache,
-    heads: &mut [u64],
-    keys: &mut [u8],
-    kept: &mut [u32],
-    snapshot: CSnapshot,
-    area: &[u32],
-    out: &mut [u32],
-) -> CCache {
-    let kind = small_at(record, 0);
-    if heads.len() < 24 {
-        return cache;
+// Whether a record is of a call on a cache.
+fn is_on_cache(record: &[u8]) -> bool {
+    let kind = kind_of(record);
+    if kind < NEW_CACHE {
+        return false;
     }
-    if keys.len() < 2048 {
-        return cache;
-    }
-    if kept.len() < 128 {
-        return cache;
-    }
-    replay_cache_record(
-        tally,
-        record,
-        kind,
-        cache,
-        &mut heads[24..],
-        &mut keys[2048..],
-        &mut kept[128..],
-        snapshot,
-        area,
-        out,
-    )
+    kind <= CACHED_VERDICT
 }
 
-// A record of a call on one of the two caches.
-fn replay_cache(
-    tally: &mut [u64],
-    record: &[u8],
-    state: State,
-    heads: &mut [u64],
-    keys: &mut [u8],
-    kept: &mut [u32],
-    area: &[u32],
-    out: &mut [u32],
-) -> State {
-    let kind = small_at(record, 0);
-    let snapshot = state.snapshot;
-    if small_at(record, 10) == 0 {
-        let one = state.one;
-        let next = replay_cache_record(
-            tally,
-            record,
-            kind,
-            one,
-            heads,
-            keys,
-            kept,
-            snapshot,
-            area,
-            out,
-        );
-        return with_one(state, next);
-    }
-    let two = state.two;
-    let next = replay_two(tally, record, two, heads, keys, kept, snapshot, area, out);
-    with_two(state, next)
-}
-
-// A record of a call on texts, list or snapshot.
-fn replay_other(
-    tally: &mut [u64],
-    record: &[u8],
-    state: State,
-    words: &mut [usize],
-    store: &mut [u8],
-    nodes: &mut [u32],
-    targets: &mut [u32],
-    area: &mut [u32],
-    out: &mut [u32],
-) -> State {
-    let kind = small_at(record, 0);
-    let list = state.list;
-    if kind < 5 {
-        replay_text_record(tally, record, kind, out);
-        return state;
-    }
-    if kind < 9 {
-        let next = replay_list_record(tally, record, kind, list, words, store, nodes, targets, out);
-        return with_list(state, next);
-    }
-    let snapshot = state.snapshot;
-    let next = replay_snapshot_record(
-        tally,
-        record,
-        kind,
-        list,
-        snapshot,
-        nodes,
-        targets,
-        area,
-        out,
-    );
-    with_snapshot(state, next)
-}
-
-// One record.
-fn replay_one(
-    tally: &mut [u64],
-    record: &[u8],
-    state: State,
-    words: &mut [usize],
-    store: &mut [u8],
-    nodes: &mut [u32],
-    targets: &mut [u32],
-    area: &mut [u32],
-    out: &mut [u32],
-    heads: &mut [u64],
-    keys: &mut [u8],
-    kept: &mut [u32],
-) -> State {
-    if small_at(record, 0) < 14 {
-        return replay_other(
-            tally,
+fn on_cache(record: &[u8], state: State, area: &Area, out: &mut Targets) -> State {
+    if is_on_cache(record) {
+        let snapshot = state.snapshot;
+        return with_cache(
             record,
             state,
-            words,
-            store,
-            nodes,
-            targets,
-            area,
-            out,
+            call_cache(record, cache_in(record, state), snapshot, area, out),
         );
     }
-    replay_cache(tally, record, state, heads, keys, kept, area, out)
+    state
 }
 
-// The next record, which starts with its length in two bytes.
-fn replay_next(
-    tally: &mut [u64],
-    recording: &[u8],
-    state: State,
-    words: &mut [usize],
-    store: &mut [u8],
-    nodes: &mut [u32],
-    targets: &mut [u32],
-    area: &mut [u32],
-    out: &mut [u32],
-    heads: &mut [u64],
-    keys: &mut [u8],
-    kept: &mut [u32],
-) -> State {
-    let length = short_at(recording, state.at) as usize;
-    let record = part(recording, ahead(state.at, 2), length);
-    let next = moved(state, ahead(length, 2));
-    replay_one(
-        tally,
-        record,
-        next,
-        words,
-        store,
-        nodes,
-        targets,
-        area,
-        out,
-        heads,
-        keys,
-        kept,
-    )
+// ---- What is counted: the differences, the records of each kind at the kind, and all records; and what is said of a
+// difference.
+
+const RECORDS: usize = 18;
+
+const DIFFERENCES: usize = 19;
+
+const COUNTS: usize = 20;
+
+type Tally = [u64; COUNTS];
+
+fn say(text: &[u8]) {
+    io::write_all(1, text);
 }
 
-// So many records. The place behind them.
-fn replay_all(
-    tally: &mut [u64],
-    recording: &[u8],
-    records: u64,
-    words: &mut [usize],
-    store: &mut [u8],
-    nodes: &mut [u32],
-    targets: &mut [u32],
-    area: &mut [u32],
-    out: &mut [u32],
-    heads: &mut [u64],
-    keys: &mut [u8],
-    kept: &mut [u32],
-) -> usize {
-    let mut state = fresh();
-    let mut left = records;
-    while 0 < left {
-        left -= 1;
-        state = replay_next(
-            tally,
-            recording,
-            state,
-            words,
-            store,
-            nodes,
-            targets,
-            area,
-            out,
-            heads,
-            keys,
-            kept,
-        );
+// One more at a place.
+fn count(tally: &mut Tally, place: usize) {
+    if place < COUNTS {
+        tally[place] = std::num::wrapping_add_u64(tally[place], 1);
     }
-    state.at
 }
 
-fn say_count(tally: &[u64], name: &[u8], kind: usize) {
-    say(name);
-    say(b" ");
-    say_number(counted(tally, kind));
+// The number at a place.
+fn counted(tally: &Tally, place: usize) -> u64 {
+    if place < COUNTS {
+        return tally[place];
+    }
+    0
+}
+
+fn say_value(text: &[u8], n: u64) {
+    say(text);
+    io::print_decimal(1, n);
+}
+
+fn say_difference(record: u64, at: usize, came: u64, recorded: u64) {
+    say_value(b"record ", record);
+    say_value(b", at ", at as u64);
+    say_value(b": ", came);
+    say_value(b", recorded ", recorded);
     say(b"\n");
 }
 
-fn report(tally: &[u64]) {
-    say_count(tally, b"parse_literal", 1);
-    say_count(tally, b"parse", 2);
-    say_count(tally, b"matches", 3);
-    say_count(tally, b"single_home", 4);
-    say_count(tally, b"new list", 5);
-    say_count(tally, b"insert", 6);
-    say_count(tally, b"build", 7);
-    say_count(tally, b"match in the table", 8);
-    say_count(tally, b"new snapshot", 9);
-    say_count(tally, b"empty snapshot", 10);
-    say_count(tally, b"store", 11);
-    say_count(tally, b"match in the snapshot", 12);
-    say_count(tally, b"resolve_single_home", 13);
-    say_count(tally, b"new cache", 14);
-    say_count(tally, b"clear", 15);
-    say_count(tally, b"resolve", 16);
-    say_count(tally, b"resolve_single_home_cached", 17);
-    say_count(tally, b"records", RECORDS);
-    say_count(tally, b"differences", DIFFERENCES);
+// Counts and says a difference at a place of the record, unless what came out is what is recorded.
+fn hold(tally: &mut Tally, at: usize, came: u64, recorded: u64) {
+    if came == recorded {
+        return;
+    }
+    count(tally, DIFFERENCES);
+    say_difference(counted(tally, RECORDS), at, came, recorded);
 }
 
-// The areas that the calls are lent: room for 1,026 entries, and for eight slots of each cache.
-fn replay(recording: &[u8]) {
-    let mut tally = [0u64; 21];
-    let mut words = [0usize; 3078];
-    let mut store = [0u8; 19498];
-    let mut nodes = [0u32; 32784];
-    let mut targets = [0u32; 1026];
-    let mut area = [0u32; 33810];
-    let mut out = [0u32; 1026];
-    let mut heads = [0u64; 48];
-    let mut keys = [0u8; 4096];
-    let mut kept = [0u32; 256];
-    let end = replay_all(
-        &mut tally,
+fn hold_word(tally: &mut Tally, record: &[u8], at: usize, came: u64) {
+    hold(tally, at, came, word_at(record, at) as u64);
+}
+
+fn hold_number(tally: &mut Tally, record: &[u8], at: usize, came: u64) {
+    if at != NOWHERE {
+        hold(tally, at, came, number_at(record, at));
+    }
+}
+
+// Counts a record, and holds an answer to it.
+fn hold_answer(tally: &mut Tally, record: &[u8], a: CAnswer) {
+    count(tally, RECORDS);
+    count(tally, kind_of(record));
+    hold(tally, NUMBER, a.number, byte_at(record, NUMBER) as u64);
+    hold_word(tally, record, FIRST, a.first);
+    hold_word(tally, record, SECOND, a.second);
+    hold_number(
+        tally,
+        record,
+        generation_at(kind_of(record), a.number),
+        a.third,
+    );
+}
+
+fn target_at(out: &Targets, at: usize) -> u32 {
+    if at < ENTRIES {
+        return out[at];
+    }
+    0
+}
+
+// Holds the targets that the output starts with to those from a place of the record on.
+fn hold_targets(tally: &mut Tally, record: &[u8], at: usize, count: u16, out: &Targets) {
+    let mut place = at;
+    let mut i: u16 = 0;
+    while i < count {
+        hold_word(tally, record, place, target_at(out, i as usize) as u64);
+        place = ahead(place, 4);
+        i += 1;
+    }
+}
+
+// The length of the list of an answer.
+fn length_of(a: CAnswer) -> u64 {
+    if a.number == 0 {
+        return a.first;
+    }
+    0
+}
+
+// Holds a list, which the output starts with.
+fn hold_list(tally: &mut Tally, record: &[u8], a: CAnswer, out: &Targets) {
+    let at = list_at(kind_of(record));
+    if at == NOWHERE {
+        return;
+    }
+    let count = short_at(record, at);
+    hold(tally, at, length_of(a), count as u64);
+    hold_targets(tally, record, ahead(at, 2), count, out);
+}
+
+// A cache as a call left it.
+fn hold_cache(tally: &mut Tally, record: &[u8], given: CResolved) {
+    hold_word(tally, record, SUBJECTS, given.used);
+    hold_number(tally, record, WALKS, given.walks);
+    hold_number(tally, record, GENERATION, given.generation);
+}
+
+// What a call left, besides its answer and its list.
+fn hold_state(tally: &mut Tally, record: &[u8], state: State) {
+    let snapshot = state.snapshot;
+    if kind_of(record) == STORE {
+        hold_number(tally, record, CALL_AND_GENERATION, snapshot.generation);
+        return;
+    }
+    if is_on_cache(record) {
+        let cache = cache_in(record, state);
+        hold_cache(tally, record, cache.given);
+    }
+}
+
+// Holds what a call gave to its record.
+fn hold_record(tally: &mut Tally, record: &[u8], state: State, out: &Targets) {
+    hold_answer(tally, record, state.answer);
+    hold_list(tally, record, state.answer, out);
+    hold_state(tally, record, state);
+}
+
+// ---- The whole recording.
+
+// The first record lies behind the number of records, in eight bytes.
+const FIRST_RECORD: usize = 8;
+
+// Makes the call of the record at a place and holds what it gives. Each part takes the records of its kinds alone.
+fn replay_next(
+    tally: &mut Tally,
+    recording: &[u8],
+    at: usize,
+    before: State,
+    words: &mut Words,
+    store: &mut Store,
+    nodes: &mut Nodes,
+    targets: &mut Targets,
+    area: &mut Area,
+    out: &mut Targets,
+) -> State {
+    let record = text_at(recording, at);
+    let mut state = on_texts(record, before, out);
+    state = on_list(record, state, words, store, nodes, targets, out);
+    state = on_snapshot(record, state, nodes, targets, area, out);
+    state = on_cache(record, state, area, out);
+    hold_record(tally, record, state, out);
+    state
+}
+
+// All records. The place behind them.
+fn replay_all(
+    tally: &mut Tally,
+    recording: &[u8],
+    words: &mut Words,
+    store: &mut Store,
+    nodes: &mut Nodes,
+    targets: &mut Targets,
+    area: &mut Area,
+    out: &mut Targets,
+) -> usize {
+    let mut state = fresh();
+    let mut at = FIRST_RECORD;
+    let mut records = number_at(recording, 0);
+    while 0 < records {
+        records -= 1;
+        state = replay_next(
+            tally,
+            recording,
+            at,
+            state,
+            words,
+            store,
+            nodes,
+            targets,
+            area,
+            out,
+        );
+        at = after_text(recording, at);
+    }
+    at
+}
+
+// Says a byte, before an end of a line the number at a place. The next place.
+fn say_byte(tally: &Tally, byte: u8, place: usize) -> usize {
+    if byte == b'\n' {
+        say_value(b" ", counted(tally, place));
+        say(b"\n");
+        return ahead(place, 1);
+    }
+    say(&[byte]);
+    place
+}
+
+// Says a text, a number of the tally before each end of a line: those from a place on.
+fn say_counts(tally: &Tally, lines: &[u8], first: usize) {
+    let mut place = first;
+    let mut i = 0;
+    while i < lines.len() {
+        place = say_byte(tally, lines[i], place);
+        i += 1;
+    }
+}
+
+fn report(tally: &Tally) {
+    say_counts(
+        tally,
+        b"parse_literal\nparse\nmatches\nsingle_home\nnew list\ninsert\nbuild\n",
+        PARSE_LITERAL,
+    );
+    say_counts(
+        tally,
+        b"match in the table\nnew snapshot\nempty snapshot\nstore\nmatch in the snapshot\n",
+        MATCH_TABLE,
+    );
+    say_counts(
+        tally,
+        b"resolve_single_home\nnew cache\nclear\nresolve\nresolve_single_home_cached\n",
+        VERDICT,
+    );
+    say_counts(tally, b"records\ndifferences\n", RECORDS);
+}
+
+// Lends the areas.
+fn replay(recording: &[u8], tally: &mut Tally) -> usize {
+    let mut words = [0usize; ENTRY_NUMBERS];
+    let mut store = [0u8; STORE_BYTES];
+    let mut nodes = [0u32; NODE_WORDS];
+    let mut targets = [0u32; ENTRIES];
+    let mut area = [0u32; AREA_WORDS];
+    let mut out = [0u32; ENTRIES];
+    replay_all(
+        tally,
         recording,
-        number_at(recording, 0),
         &mut words,
         &mut store,
         &mut nodes,
         &mut targets,
         &mut area,
         &mut out,
-        &mut heads,
-        &mut keys,
-        &mut kept,
-    );
-    hold(&mut tally, b"bytes", recording.len() as u64, end as u64);
+    )
+}
+
+// Replays a recording, whose last record is to end where it ends, and reports.
+fn replay_and_report(recording: &[u8]) {
+    let mut tally = [0u64; COUNTS];
+    let end = replay(recording, &mut tally);
+    hold(&mut tally, end, recording.len() as u64, end as u64);
     report(&tally);
 }
 
+// Room for a recording.
+const RECORDING_BYTES: usize = 262144;
+
+fn read_and_replay(room: &mut [u8]) {
+    let n = io::read_full(0, room);
+    replay_and_report(first_bytes(room, n));
+}
+
 fn main() {
-    let mut recording = [0u8; 262144];
-    let n = io::read_full(0, &mut recording);
-    replay(&recording[..n]);
+    let mut recording = [0u8; RECORDING_BYTES];
+    read_and_replay(&mut recording);
 }

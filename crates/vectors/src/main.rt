@@ -1,6 +1,6 @@
-// Runs texts at the limits of the grammar, lists at the limit of a table's worst case, and the published vectors of 64-bit
-// FNV-1a, and says of each what came out and whether that is right. The vectors are those of the FNV reference code by
-// Fowler, Noll and Vo.
+// Runs texts at the limits of the grammar, lists at the limit of a table's worst case, and the published vectors of
+// 64-bit FNV-1a, and says of each what came out and whether that is right. The vectors are those of the FNV reference
+// code by Fowler, Noll and Vo.
 use router_c::CAnswer;
 
 // ---- The areas: room for the 1,024 runs of ten tokens and two entries more, and for the 2,049 nodes of their table.
