@@ -9,11 +9,12 @@ use mathlib.Core.List.{List, [], _∷_, _++_}
 use lib.ListN.{length, getD, take, drop, set}
 use lib.Seq.{getD-set-same, getD-set-other}
 use Rattle.subject.specs.Choice.{pick}
-use Rattle.subject.specs.Text.{tokens, isStar, isTail}
+use Rattle.subject.specs.Text.{tokens, isTail}
 use Rattle.subject.specs.Fnv.{fnv}
-use Rattle.sublist_tree.specs.Tree.{Key, star, lit, Line, line, onto, lineOf}
+use Rattle.sublist_tree.specs.Tree.{Key, Line, line, onto, lineOf}
 use Rattle.sublist_area.specs.declared.Placed.{Placed}
 use Rattle.sublist_area.specs.declared.Placed.the-variants.{At, Full, Broken}
+use Rattle.sublist_area.specs.Words.{tokenKey}
 use Rattle.sublist_area.specs.Growing.{grown}
 use Rattle.sublist.specs.declared.Ended.{Ended}
 use Rattle.sublist.specs.declared.Ended.the-variants as ended
@@ -59,7 +60,7 @@ line-target [] x y = refl
 line-target (t ∷ ts) x y = go (isTail t) (line-target ts x y)
   where
     k : Key ℕ
-    k = pick (isStar t) star (lit (fnv t))
+    k = tokenKey t
 
     go : (b : Bool) → lineOf fnv ts y ≡ retarget (lineOf fnv ts x) y
         → pick b (line [] true y) (onto k (lineOf fnv ts y)) ≡ retarget (pick b (line [] true x) (onto k (lineOf fnv ts x))) y
