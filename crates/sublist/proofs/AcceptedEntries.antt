@@ -100,7 +100,8 @@ sound-entry store index e q = go (ltb (length store) (e .start + e .length)) ref
     go true l q = let z : _≡_ {A = ℕ} 0 1 = cc in absurd (omega arith)
     go false l q = (ltb-false (length store) (e .start + e .length) l, not-invalid (textOf store e) q)
 
-first-none : (x y : Option Answer) → firstOf x y ≡ none → (x ≡ none) × (y ≡ none)
+-- neither of the two is refused
+pub first-none : (x y : Option Answer) → firstOf x y ≡ none → (x ≡ none) × (y ≡ none)
 first-none none y e = (refl, e)
 first-none (some a) y e = let z : _≡_ {A = ℕ} 0 1 = cc in absurd (omega arith)
 

@@ -21,6 +21,7 @@ use Rattle.sublist.specs.Building.{held}
 use Rattle.sublist.specs.Building.{invalid, badEntry, badEntries}
 use Rattle.sublist_entries.specs.Numbers.{unflat}
 use Rattle.sublist.specs.Core.{checked, placeOf}
+use Rattle.sublist.proofs.AcceptedEntries.{first-none}
 use Rattle.sublist.proofs.Listed.{unflat-on, unflat-end}
 
 pub invalid-refused : (e : SubjectError) → some (held (refusal e)) ≡ invalid (refusal e)
@@ -54,40 +55,32 @@ module _ (store : List ℕ) (index start size : ℕ) where
     entry-sound n q = (rw q refl) ∙ entry-text
 
 -- x is the answer for all the entries, and those from entry i on give it
-module _ (store ws : List ℕ) (i n : ℕ) (x : Option Answer) (e : badEntries store i (unflat (n - i) (drop (i * 3) ws)) ≡ x) where
+module _ (store ws : List ℕ) (i n : ℕ) (x : Option Answer) (e : badEntries store i (unflat (n - i) (drop (3 * i) ws)) ≡ x) where
   pub checks-end : n ≤ i → none ≡ x
   checks-end h = rw (unflat-end ws i n h) at e
 
-  module _ (h : i < n) (l : n * 3 ≤ length ws) (c : EntryCheck) (q : checked c ≡ badEntry store i (placeOf (getD ws (i * 3) 0) (getD ws (i * 3 + 1) 0))) where
-    checks-step : firstOf (checked c) (badEntries store (i + 1) (unflat (n - (i + 1)) (drop ((i + 1) * 3) ws))) ≡ x
+  module _ (h : i < n) (l : 3 * n ≤ length ws) (c : EntryCheck) (q : checked c ≡ badEntry store i (placeOf (getD ws (3 * i) 0) (getD ws (3 * i + 1) 0))) where
+    checks-step : firstOf (checked c) (badEntries store (i + 1) (unflat (n - (i + 1)) (drop (3 * (i + 1)) ws))) ≡ x
     checks-step = rw q (rw (unflat-on ws i n h l) at e)
 
-    pub checks-on : c ≡ Sound → badEntries store (i + 1) (unflat (n - (i + 1)) (drop ((i + 1) * 3) ws)) ≡ x
+    pub checks-on : c ≡ Sound → badEntries store (i + 1) (unflat (n - (i + 1)) (drop (3 * (i + 1)) ws)) ≡ x
     checks-on s = rw s at checks-step
 
     pub checks-bad : (b : SublistError) → c ≡ Bad b → checked c ≡ x
     checks-bad b s = rw s (rw s at checks-step)
 
--- where no entry is refused: neither the first nor those behind it
-first-none : (o p : Option Answer) → firstOf o p ≡ none → o ≡ none
-first-none none p e = refl
-first-none (some r) p e = e
-
-rest-none : (o p : Option Answer) → firstOf o p ≡ none → p ≡ none
-rest-none none p e = e
-rest-none (some r) p e = let z : _≡_ {A = ℕ} 0 1 = cc in absurd (omega arith)
-
+-- where no entry is refused
 not-some : (b : Bool) (r : Answer) (o : Option Answer) → pick b (some r) o ≡ none → b ≡ false
 not-some true r o e = let z : _≡_ {A = ℕ} 0 1 = cc in absurd (omega arith)
 not-some false r o e = refl
 
-module _ (store ws : List ℕ) (i n : ℕ) (h : i < n) (l : n * 3 ≤ length ws) (e : badEntries store i (unflat (n - i) (drop (i * 3) ws)) ≡ none) where
-  sound : firstOf (badEntry store i (placeOf (getD ws (i * 3) 0) (getD ws (i * 3 + 1) 0))) (badEntries store (i + 1) (unflat (n - (i + 1)) (drop ((i + 1) * 3) ws))) ≡ none
+module _ (store ws : List ℕ) (i n : ℕ) (h : i < n) (l : 3 * n ≤ length ws) (e : badEntries store i (unflat (n - i) (drop (3 * i) ws)) ≡ none) where
+  sound : firstOf (badEntry store i (placeOf (getD ws (3 * i) 0) (getD ws (3 * i + 1) 0))) (badEntries store (i + 1) (unflat (n - (i + 1)) (drop (3 * (i + 1)) ws))) ≡ none
   sound = rw (unflat-on ws i n h l) at e
 
   -- the text of entry i lies in the store
-  pub sound-inside : getD ws (i * 3) 0 + getD ws (i * 3 + 1) 0 ≤ length store
-  sound-inside = ltb-false _ _ (not-some _ _ _ (first-none _ _ sound))
+  pub sound-inside : getD ws (3 * i) 0 + getD ws (3 * i + 1) 0 ≤ length store
+  sound-inside = ltb-false _ _ (not-some _ _ _ (first-none _ _ sound .0))
 
-  pub sound-on : badEntries store (i + 1) (unflat (n - (i + 1)) (drop ((i + 1) * 3) ws)) ≡ none
-  sound-on = rest-none (badEntry store i (placeOf (getD ws (i * 3) 0) (getD ws (i * 3 + 1) 0))) (badEntries store (i + 1) (unflat (n - (i + 1)) (drop ((i + 1) * 3) ws))) sound
+  pub sound-on : badEntries store (i + 1) (unflat (n - (i + 1)) (drop (3 * (i + 1)) ws)) ≡ none
+  sound-on = first-none (badEntry store i (placeOf (getD ws (3 * i) 0) (getD ws (3 * i + 1) 0))) (badEntries store (i + 1) (unflat (n - (i + 1)) (drop (3 * (i + 1)) ws))) sound .1

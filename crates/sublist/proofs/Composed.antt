@@ -10,11 +10,11 @@ use lib.Dec.{eqb, ltb}
 use lib.ListN.{length, length-map}
 use borrow.Author.Tests.{le-ltb, ltb-true, ltb-false}
 use Rattle.subject.specs.Choice.{pick}
-use Rattle.subject.specs.Text.{tokens, isStar, isTail}
+use Rattle.subject.specs.Text.{tokens, isTail}
 use Rattle.subject.specs.Fnv.{fnv}
 use Rattle.subject.specs.Answers.{Answer, answer, unless}
 use Rattle.sublist_tree.specs.Lists.{All}
-use Rattle.sublist_tree.specs.Tree.{Key, star, lit, Line, line, onto, lineOf, targetOf}
+use Rattle.sublist_tree.specs.Tree.{Key, Line, line, onto, lineOf, targetOf}
 use Rattle.sublist_tree.specs.Table.{Accepted}
 use Rattle.sublist_tree.proofs.Fork.{Within, worst-length}
 use Rattle.sublist_tree.proofs.Route.{root-within}
@@ -24,6 +24,7 @@ use Rattle.sublist_trie.proofs.Ends.{endsOf}
 use Rattle.sublist_trie.proofs.Children.{built-for}
 use Rattle.sublist_trie.proofs.Runs.{size-pos}
 use Rattle.sublist_trie.proofs.Sizes.{size-nodes}
+use Rattle.sublist_area.specs.Words.{tokenKey}
 use Rattle.sublist_area.specs.Growing.{planted}
 use Rattle.sublist_area.proofs.Stores.{length-planted}
 use Rattle.sublist_entries.specs.declared.Entry.{Entry}
@@ -64,9 +65,9 @@ line-target : (ts : List (List ℕ)) (x : ℕ) → targetOf (lineOf fnv ts x) �
 line-target [] x = refl
 line-target (t ∷ ts) x = go (isTail t) (line-target ts x)
   where
-    go : (b : Bool) → targetOf (lineOf fnv ts x) ≡ x → targetOf (pick b (line [] true x) (onto (pick (isStar t) star (lit (fnv t))) (lineOf fnv ts x))) ≡ x
+    go : (b : Bool) → targetOf (lineOf fnv ts x) ≡ x → targetOf (pick b (line [] true x) (onto (tokenKey t) (lineOf fnv ts x))) ≡ x
     go true ih = refl
-    go false ih = onto-target (pick (isStar t) star (lit (fnv t))) (lineOf fnv ts x) ∙ ih
+    go false ih = onto-target (tokenKey t) (lineOf fnv ts x) ∙ ih
 
 lines-targets : (store : List ℕ) (es : List Entry) → map targetOf (linesOf store es) ≡ map targetWord es
 lines-targets store [] = refl

@@ -9,11 +9,12 @@ use mathlib.Core.List.{List, [], _∷_, _++_}
 use lib.ListN.{length, getD, take, drop, set}
 use lib.Seq.{getD-set-same, getD-set-other}
 use Rattle.subject.specs.Choice.{pick}
-use Rattle.subject.specs.Text.{tokens, isStar, isTail}
+use Rattle.subject.specs.Text.{tokens, isTail}
 use Rattle.subject.specs.Fnv.{fnv}
-use Rattle.sublist_tree.specs.Tree.{Key, star, lit, Line, line, onto, lineOf}
+use Rattle.sublist_tree.specs.Tree.{Key, Line, line, onto, lineOf}
 use Rattle.sublist_area.specs.declared.Placed.{Placed}
 use Rattle.sublist_area.specs.declared.Placed.the-variants.{At, Full, Broken}
+use Rattle.sublist_area.specs.Words.{tokenKey}
 use Rattle.sublist_area.specs.Growing.{grown}
 use Rattle.sublist.specs.declared.Ended.{Ended}
 use Rattle.sublist.specs.declared.Ended.the-variants as ended
@@ -59,7 +60,7 @@ line-target [] x y = refl
 line-target (t ∷ ts) x y = go (isTail t) (line-target ts x y)
   where
     k : Key ℕ
-    k = pick (isStar t) star (lit (fnv t))
+    k = tokenKey t
 
     go : (b : Bool) → lineOf fnv ts y ≡ retarget (lineOf fnv ts x) y
         → pick b (line [] true y) (onto k (lineOf fnv ts y)) ≡ retarget (pick b (line [] true x) (onto k (lineOf fnv ts x))) y
@@ -133,21 +134,21 @@ module _ (x : Growth) (m : ℕ) (a : List ℕ) (ends : List End) (ts : List (Lis
   turn-stop p = sym (stopped-stays c ls) ∙ (rw (stop m a ends (lineOf fnv ts 0) c (rw p at q)) at turn)
 
 -- x is what all the entries make, and those from entry i on make it of a, with m nodes and the ends so far
-module _ (x : Growth) (store ws : List ℕ) (i n : ℕ) (a es : List ℕ) (m : ℕ) (e : linesIn (growth m a (endsOf i es)) (linesOf store (unflat (n - i) (drop (i * 3) ws))) ≡ x) where
+module _ (x : Growth) (store ws : List ℕ) (i n : ℕ) (a es : List ℕ) (m : ℕ) (e : linesIn (growth m a (endsOf i es)) (linesOf store (unflat (n - i) (drop (3 * i) ws))) ≡ x) where
   pub lines-end : n ≤ i → i ≤ n → growth m a (endsOf n es) ≡ x
   unfolding linesIn
   lines-end h l =
       let q : i ≡ n = omega arith in
       rw (← q) (rw (unflat-end ws i n h) at e)
 
-  module _ (h : i < n) (l : n * 3 ≤ length ws) (r : Ended) (c : List ℕ)
-      (q : endedAs r c ≡ lineIn (growth m a []) (lineOf fnv (tokens (take (getD ws (i * 3) 0 + getD ws (i * 3 + 1) 0 - getD ws (i * 3) 0) (drop (getD ws (i * 3) 0) store))) 0)) where
+  module _ (h : i < n) (l : 3 * n ≤ length ws) (r : Ended) (c : List ℕ)
+      (q : endedAs r c ≡ lineIn (growth m a []) (lineOf fnv (tokens (take (getD ws (3 * i) 0 + getD ws (3 * i + 1) 0 - getD ws (3 * i) 0) (drop (getD ws (3 * i) 0) store))) 0)) where
     pub lines-stop : r ≡ ended.Full → stopped c ≡ x
     lines-stop p =
-        turn-stop x m a (endsOf i es) (tokens (take (getD ws (i * 3 + 1) 0) (drop (getD ws (i * 3) 0) store))) (getD ws (i * 3 + 2) 0 % 4294967296) (linesOf store (unflat (n - (i + 1)) (drop ((i + 1) * 3) ws))) r c (rw (unflat-on ws i n h l) at e) (rw (add-sub (getD ws (i * 3) 0) (getD ws (i * 3 + 1) 0)) at q) p
+        turn-stop x m a (endsOf i es) (tokens (take (getD ws (3 * i + 1) 0) (drop (getD ws (3 * i) 0) store))) (getD ws (3 * i + 2) 0 % 4294967296) (linesOf store (unflat (n - (i + 1)) (drop (3 * (i + 1)) ws))) r c (rw (unflat-on ws i n h l) at e) (rw (add-sub (getD ws (3 * i) 0) (getD ws (3 * i + 1) 0)) at q) p
 
     pub lines-on : (j : ℕ) (t : Bool) (k v : ℕ) → r ≡ ended.At j t k → endOf v ≡ end j t → i < length es
-        → linesIn (growth k c (endsOf (i + 1) (set es i v))) (linesOf store (unflat (n - (i + 1)) (drop ((i + 1) * 3) ws))) ≡ x
+        → linesIn (growth k c (endsOf (i + 1) (set es i v))) (linesOf store (unflat (n - (i + 1)) (drop (3 * (i + 1)) ws))) ≡ x
     lines-on j t k v p d g =
         rw (add-one i, ends-more i es v g, d, ← add-one i)
-        (turn-on x m a (endsOf i es) (tokens (take (getD ws (i * 3 + 1) 0) (drop (getD ws (i * 3) 0) store))) (getD ws (i * 3 + 2) 0 % 4294967296) (linesOf store (unflat (n - (i + 1)) (drop ((i + 1) * 3) ws))) r c (rw (unflat-on ws i n h l) at e) (rw (add-sub (getD ws (i * 3) 0) (getD ws (i * 3 + 1) 0)) at q) j t k p)
+        (turn-on x m a (endsOf i es) (tokens (take (getD ws (3 * i + 1) 0) (drop (getD ws (3 * i) 0) store))) (getD ws (3 * i + 2) 0 % 4294967296) (linesOf store (unflat (n - (i + 1)) (drop (3 * (i + 1)) ws))) r c (rw (unflat-on ws i n h l) at e) (rw (add-sub (getD ws (3 * i) 0) (getD ws (3 * i + 1) 0)) at q) j t k p)

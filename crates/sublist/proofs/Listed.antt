@@ -8,30 +8,26 @@ use mathlib.Core.List.{List, [], _∷_}
 use lib.ListN.{length, getD, drop}
 use lib.Seq.{drop-cons}
 use borrow.Author.Tests.{eq-eqb, ne-eqb}
-use Rattle.sublist_entries.specs.declared.Entry.{Entry}
 use Rattle.subject.specs.Text.{isStar}
 use Rattle.subject.specs.Fnv.{fnv}
 use Rattle.sublist_tree.specs.Tree.{star, lit}
 use Rattle.sublist.specs.Passes.{end}
 use Rattle.sublist_entries.specs.Numbers.{unflat}
+use Rattle.sublist_entries.proofs.Unflat.{entryAt}
 use Rattle.sublist_area.specs.Words.{tokenKey}
 use Rattle.sublist.specs.Core.{endOf, endsOf}
-
--- entry i
-abbrev pub entryAt : List ℕ → ℕ → Entry
-entryAt ws i = record { start = getD ws (i * 3) 0; length = getD ws (i * 3 + 1) 0; target = getD ws (i * 3 + 2) 0 }
 
 left-on : (i n : ℕ) → i < n → n - i ≡ suc (n - (i + 1))
 left-on i n h = omega arith
 
-pub unflat-on : (ws : List ℕ) (i n : ℕ) → i < n → n * 3 ≤ length ws
-    → unflat (n - i) (drop (i * 3) ws) ≡ entryAt ws i ∷ unflat (n - (i + 1)) (drop ((i + 1) * 3) ws)
+pub unflat-on : (ws : List ℕ) (i n : ℕ) → i < n → 3 * n ≤ length ws
+    → unflat (n - i) (drop (3 * i) ws) ≡ entryAt ws i ∷ unflat (n - (i + 1)) (drop (3 * (i + 1)) ws)
 unflat-on ws i n h l =
-    let three : (i + 1) * 3 ≡ suc (suc (suc (i * 3))) = omega arith in
-    let two : i * 3 + 2 ≡ suc (suc (i * 3)) = omega arith in
-    rw (left-on i n h, three, two, add-one (i * 3), drop-cons ws (i * 3) 0 (omega arith), drop-cons ws (suc (i * 3)) 0 (omega arith), drop-cons ws (suc (suc (i * 3))) 0 (omega arith))
+    let three : 3 * (i + 1) ≡ suc (suc (suc (3 * i))) = omega arith in
+    let two : 3 * i + 2 ≡ suc (suc (3 * i)) = omega arith in
+    rw (left-on i n h, three, two, add-one (3 * i), drop-cons ws (3 * i) 0 (omega arith), drop-cons ws (suc (3 * i)) 0 (omega arith), drop-cons ws (suc (suc (3 * i))) 0 (omega arith))
 
-pub unflat-end : (ws : List ℕ) (i n : ℕ) → n ≤ i → unflat (n - i) (drop (i * 3) ws) ≡ []
+pub unflat-end : (ws : List ℕ) (i n : ℕ) → n ≤ i → unflat (n - i) (drop (3 * i) ws) ≡ []
 unflat-end ws i n h = let z : n - i ≡ 0 = omega arith in rw z
 
 pub ends-on : (es : List ℕ) (i n : ℕ) → i < n → n ≤ length es → endsOf (n - i) (drop i es) ≡ endOf (getD es i 0) ∷ endsOf (n - (i + 1)) (drop (i + 1) es)

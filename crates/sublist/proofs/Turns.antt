@@ -49,12 +49,12 @@ module _ (a : List ℕ) (i n from : ℕ) where
 
 -- a turn of the fourth pass, and its end
 module _ (f : Filling) (ws es : List ℕ) (i n : ℕ) where
-  pub fill-on : i < n → n * 3 ≤ length ws → n ≤ length es
-      → filled f (endsOf (n - i) (drop i es)) (targetsOf (unflat (n - i) (drop (i * 3) ws)))
-      ≡ filled (filledBy f (endOf (getD es i 0)) (getD ws (i * 3 + 2) 0 % 4294967296)) (endsOf (n - (i + 1)) (drop (i + 1) es)) (targetsOf (unflat (n - (i + 1)) (drop ((i + 1) * 3) ws)))
+  pub fill-on : i < n → 3 * n ≤ length ws → n ≤ length es
+      → filled f (endsOf (n - i) (drop i es)) (targetsOf (unflat (n - i) (drop (3 * i) ws)))
+      ≡ filled (filledBy f (endOf (getD es i 0)) (getD ws (3 * i + 2) 0 % 4294967296)) (endsOf (n - (i + 1)) (drop (i + 1) es)) (targetsOf (unflat (n - (i + 1)) (drop (3 * (i + 1)) ws)))
   unfolding filled
   fill-on h l k = rw (ends-on es i n h k, unflat-on ws i n h l)
 
-  pub fill-end : n ≤ i → filled f (endsOf (n - i) (drop i es)) (targetsOf (unflat (n - i) (drop (i * 3) ws))) ≡ f
+  pub fill-end : n ≤ i → filled f (endsOf (n - i) (drop i es)) (targetsOf (unflat (n - i) (drop (3 * i) ws))) ≡ f
   unfolding filled
   fill-end h = rw (ends-end es i n h)

@@ -145,12 +145,12 @@ fn check_entry(store: &[u8], index: usize, start: usize, size: usize) -> EntryCh
 
 // The first entry that is not sound. Three numbers an entry: start, length, target.
 fn check_entries(words: &[usize], count: usize, store: &[u8]) -> EntryCheck
-    requires { ⌜ count * entryNumbers ≤ length (now words) ⌝ }
+    requires { ⌜ entryNumbers * count ≤ length (now words) ⌝ }
     ensures { λ r. ⌜ checked r ≡ badEntries (now (store .entry)) 0 (unflat count (now (words .entry))) ⌝ }
 {
     let mut i = 0;
     while i < count {
-        let at = i * ENTRY_NUMBERS;
+        let at = ENTRY_NUMBERS * i;
         let check = check_entry(store, i, words[at], words[at + 1]);
         let EntryCheck::Sound = check else {
             return check;
@@ -272,7 +272,7 @@ fn insert_entries(
     ends: &mut [usize],
 ) -> Grown
     requires { ⌜
-        (count * entryNumbers ≤ length (now words))
+        (entryNumbers * count ≤ length (now words))
         × (count ≤ length (now ends))
         × (nodeWords ≤ length (now «node_words»))
         × (badEntries (now store) 0 (unflat count (now words)) ≡ none) ⌝ }
@@ -285,7 +285,7 @@ fn insert_entries(
     let mut total = 1;
     let mut i = 0;
     while i < count {
-        let at = i * ENTRY_NUMBERS;
+        let at = ENTRY_NUMBERS * i;
         let from = words[at];
         let to = from + words[at + 1];
         match insert_line(node_words, total, &store[from..to]) {
@@ -315,7 +315,7 @@ fn grow_table(
     ends: &mut [usize],
 ) -> Grown
     requires { ⌜
-        (count * entryNumbers ≤ length (now words))
+        (entryNumbers * count ≤ length (now words))
         × (count ≤ length (now ends))
         × (badEntries (now store) 0 (unflat count (now words)) ≡ none) ⌝ }
     ensures { λ r. ⌜
@@ -558,7 +558,7 @@ fn put_targets(
     target_words: &mut [u32],
 )
     requires { ⌜
-        (count * entryNumbers ≤ length (now words))
+        (entryNumbers * count ≤ length (now words))
         × (count ≤ length (now ends))
         × EndBelow count (now ends) (length (now «node_words») / nodeWords) ⌝ }
     ensures { λ _. ⌜
@@ -569,7 +569,7 @@ fn put_targets(
     let mut i = 0;
     while i < count {
         let end = ends[i];
-        let target = (words[i * ENTRY_NUMBERS + 2] % WORD) as u32;
+        let target = (words[ENTRY_NUMBERS * i + 2] % WORD) as u32;
         put_target(node_words, target_words, end / 2, end % 2 == 1, target);
         i += 1;
     }
@@ -586,7 +586,7 @@ fn finish(
     generation: u64,
 ) -> Built
     requires { ⌜
-        (count * entryNumbers ≤ length (now words))
+        (entryNumbers * count ≤ length (now words))
         × (count ≤ length (now ends))
         × (0 < total)
         × (total * nodeWords ≤ length (now «node_words»))

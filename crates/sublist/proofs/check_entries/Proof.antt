@@ -11,7 +11,7 @@ use Rattle.sublist.proofs.check_entries.Statement.{statement}
 use Rattle.sublist.proofs.check_entries.Tie as tie
 
 abbrev Inv-loop : tie.InvT-loop
-Inv-loop words count store i₀ i = (badEntries store i (unflat (count - i) (drop (i * 3) words)) ≡ badEntries store 0 (unflat count words)) × (i ≤ count)
+Inv-loop words count store i₀ i = (badEntries store i (unflat (count - i) (drop (3 * i) words)) ≡ badEntries store 0 (unflat count words)) × (i ≤ count)
 
 abbrev μ-loop : tie.MeasureT-loop
 μ-loop words count store i₀ i = count - i

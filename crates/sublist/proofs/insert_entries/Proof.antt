@@ -19,9 +19,9 @@ use Rattle.sublist.proofs.insert_entries.Tie as tie
 
 abbrev Inv-loop : tie.InvT-loop
 Inv-loop words count store node-words₀ ends₀ total₀ i₀ node-words ends total i =
-    (linesIn (growth total node-words (endsOf i ends)) (linesOf store (unflat (count - i) (drop (i * 3) words)))
+    (linesIn (growth total node-words (endsOf i ends)) (linesOf store (unflat (count - i) (drop (3 * i) words)))
     ≡ linesIn (growth 1 node-words₀ []) (linesOf store (unflat count words)))
-    × (badEntries store i (unflat (count - i) (drop (i * 3) words)) ≡ none)
+    × (badEntries store i (unflat (count - i) (drop (3 * i) words)) ≡ none)
     × (length node-words ≡ length node-words₀) × (length ends ≡ length ends₀) × EndBelow i ends (length node-words₀ / 16)
     × (0 < total) × (total * 16 ≤ length node-words₀) × (i ≤ count)
 

@@ -14,7 +14,7 @@ use Rattle.sublist.proofs.put_targets.Tie as tie
 
 abbrev Inv-loop : tie.InvT-loop
 Inv-loop words ends count node-words₀ target-words₀ i₀ node-words target-words i =
-    (filled (filling node-words target-words) (endsOf (count - i) (drop i ends)) (targetsOf (unflat (count - i) (drop (i * 3) words)))
+    (filled (filling node-words target-words) (endsOf (count - i) (drop i ends)) (targetsOf (unflat (count - i) (drop (3 * i) words)))
     ≡ filled (filling node-words₀ target-words₀) (endsOf count ends) (targetsOf (unflat count words)))
     × (length node-words ≡ length node-words₀) × (length target-words ≡ length target-words₀) × (i ≤ count)
 
