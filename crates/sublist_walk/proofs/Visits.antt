@@ -102,25 +102,25 @@ nodes-split : (l : List ℕ) (i c : ℕ) → i < c → c ≤ length l → take c
 nodes-split l i c q r = split-at (take c l) i 0 (rw (length-take-le c l r) q) ∙ rw (take-take i c l (omega arith), getD-take c l i 0 q)
 
 module _ (k : ℕ) (a : List ℕ) (n m : ℕ) (ts : List ℕ) (h : ℕ) where
-  -- one node, from a frontier with nothing listed: `made` is what its children make of the frontier
+  -- one node, from a frontier with nothing listed: `joins` is what its children make of the frontier
   module _ (next : List ℕ) (i : ℕ) where
     pub visit-outside : collect a m ts 6 i (level [] []) ≡ broken failure.Damaged → visit k a n m ts h (level next []) i ≡ broken failure.Damaged
     unfolding visit push
     visit-outside e = rw (outside-too a m ts 6 i next [] e)
 
-    module _ (made : Level) (p : made ≡ pushes k (level next []) (children a n h i)) (at size : ℕ) (out after : List ℕ)
+    module _ (joins : Level) (p : joins ≡ pushes k (level next []) (children a n h i)) (at size : ℕ) (out after : List ℕ)
         (w : Listed (collect a m ts 6 i (level [] [])) [] at size 1 out after) where
-      visit-behind : visit k a n m ts h (level next []) i ≡ behind (w .list) made
+      visit-behind : visit k a n m ts h (level next []) i ≡ behind (w .list) joins
       unfolding visit behind
       visit-behind =
           rw (collect-new a m ts 6 i next [] (w .list) (w .is), p)
           (rw append-nil at (pushes-behind k (w .list) (level next []) (children a n h i)))
 
-      pub visit-failed : (why : Failure) → made ≡ broken why → visit k a n m ts h (level next []) i ≡ broken why
+      pub visit-failed : (why : Failure) → joins ≡ broken why → visit k a n m ts h (level next []) i ≡ broken why
       unfolding behind
       visit-failed why e = visit-behind ∙ rw e
 
-      pub visit-on : (next1 : List ℕ) → made ≡ level next1 [] → Listed (visit k a n m ts h (level next []) i) next1 at size 1 out after
+      pub visit-on : (next1 : List ℕ) → joins ≡ level next1 [] → Listed (visit k a n m ts h (level next []) i) next1 at size 1 out after
       unfolding behind
       visit-on next1 e = record {
         list = w .list;
@@ -180,12 +180,12 @@ module _ (k : ℕ) (a : List ℕ) (n m : ℕ) (ts : List ℕ) (h : ℕ) where
     visits-next q =
         rw (add-one i, take-suc l i 0 q, visits-append (level [] []) (take i l) (getD l i 0 ∷ []), w .is) (visit-through next (w .list) (getD l i 0))
 
-    -- limit, frontier and node as a call names them: k1, `lent` and j; next2 is the frontier next1, as it is found afterwards
-    pub next-on : i < length l → (k1 : ℕ) → k1 ≡ k → (lent : List ℕ) → lent ≡ next → (j : ℕ) → j ≡ getD l i 0 → (next1 next2 : List ℕ) → next1 ≡ next2 → (size1 : ℕ) (after : List ℕ)
-        → Listed (visit k1 a n m ts h (level lent []) j) next1 size size1 1 now after
+    -- limit, frontier and node as a call names them: k1, `front` and j; next2 is the frontier next1, as it is found afterwards
+    pub next-on : i < length l → (k1 : ℕ) → k1 ≡ k → (front : List ℕ) → front ≡ next → (j : ℕ) → j ≡ getD l i 0 → (next1 next2 : List ℕ) → next1 ≡ next2 → (size1 : ℕ) (after : List ℕ)
+        → Listed (visit k1 a n m ts h (level front []) j) next1 size size1 1 now after
         → Listed (visits k a n m ts h (level [] []) (take (i + 1) l)) next2 at size1 (i + 1) out after
     unfolding behind
-    next-on q k1 g lent f j e next1 next2 c size1 after u =
+    next-on q k1 g front f j e next1 next2 c size1 after u =
         let v = (rw (g, f, e, c) at u) in
         joined _ _ _ next next2 at size size1 i 1 out now after w v (visits-next q ∙ rw (v .is))
 
@@ -198,10 +198,10 @@ module _ (k : ℕ) (a : List ℕ) (n m : ℕ) (ts : List ℕ) (h : ℕ) where
           ∙ ap (λ s. visits k a n m ts h (visit k a n m ts h s (getD l i 0)) (drop (suc i) (take c l))) (w .is)
           ∙ ap (λ s. visits k a n m ts h s (drop (suc i) (take c l))) (visit-through next (w .list) (getD l i 0))
 
-      pub next-failed : (k1 : ℕ) → k1 ≡ k → (lent : List ℕ) → lent ≡ next → (j : ℕ) → j ≡ getD l i 0 → (why : Failure)
-          → visit k1 a n m ts h (level lent []) j ≡ broken why → visits k a n m ts h (level [] []) (take c l) ≡ broken why
+      pub next-failed : (k1 : ℕ) → k1 ≡ k → (front : List ℕ) → front ≡ next → (j : ℕ) → j ≡ getD l i 0 → (why : Failure)
+          → visit k1 a n m ts h (level front []) j ≡ broken why → visits k a n m ts h (level [] []) (take c l) ≡ broken why
       unfolding behind
-      next-failed k1 g lent f j d why e = visits-split ∙ rw (rw (g, f, d) at e) (visits-failed why (drop (suc i) (take c l)))
+      next-failed k1 g front f j d why e = visits-split ∙ rw (rw (g, f, d) at e) (visits-failed why (drop (suc i) (take c l)))
 
 module _ (k : ℕ) (a : List ℕ) (n m : ℕ) (ts : List ℕ) where
   exact-append : (s : Level) (is js : List ℕ) → exact k a n m ts s (is ++ js) ≡ exact k a n m ts (exact k a n m ts s is) js
