@@ -52,7 +52,7 @@ Turn from k = (from ≡ 0) ⊎ (from ≡ k)
 
 -- the level s has the frontier `next` and a list. Behind the `at` targets before it the list makes `size`, at most 2^32
 -- more for each node read, and the output, `out` before and `after` now, holds it from place `at` on, as far as that goes
-pub record Listed (s : Level) (next : List ℕ) (at size nodes : ℕ) (out after : List ℕ) : Type 0 where
+pub record Added (s : Level) (next : List ℕ) (at size nodes : ℕ) (out after : List ℕ) : Type 0 where
   pub list : List ℕ
   pub is : s ≡ level next list
   pub sized : size ≡ at + length list
@@ -60,11 +60,11 @@ pub record Listed (s : Level) (next : List ℕ) (at size nodes : ℕ) (out after
   pub stored : after ≡ sets out at list
 
 abbrev pub Lists : Collected → List ℕ → List ℕ → ℕ → ℕ → Level → Type 0
-Lists (collected.Upto size) out after at nodes s = Listed s [] at size nodes out after
+Lists (collected.Upto size) out after at nodes s = Added s [] at size nodes out after
 Lists collected.Damaged out after at nodes s = s ≡ broken failure.Damaged
 
 abbrev pub Reaches : Step → List ℕ → List ℕ → List ℕ → ℕ → ℕ → Level → Type 0
-Reaches (step.On n size) to out after at nodes s = (n ≤ length to) × Listed s (take n to) at size nodes out after
+Reaches (step.On n size) to out after at nodes s = (n ≤ length to) × Added s (take n to) at size nodes out after
 Reaches (step.Failed why) to out after at nodes s = s ≡ broken why
 
 -- the walk w ends with this peak and a list of `size` targets, which the output holds from the first place on,
