@@ -15,7 +15,7 @@ use Rattle.sublist_walk.specs.declared.Front.{Front}
 use Rattle.sublist_walk.specs.declared.Collected.{Collected}
 use Rattle.sublist_walk.specs.declared.Step.{Step}
 use Rattle.sublist_walk.specs.Walk.{part, Level, level, broken, collect, push}
-use Rattle.sublist_walk.specs.Told.{fronted, within, Listed, Lists, Reaches}
+use Rattle.sublist_walk.specs.Told.{fronted, within, Added, Lists, Reaches}
 use Rattle.sublist_walk.specs.declared.Front.the-variants as front
 use Rattle.sublist_walk.specs.declared.Collected.the-variants as collected
 use Rattle.sublist_walk.specs.declared.Step.the-variants as step
@@ -36,7 +36,7 @@ module _ (a ts : List ℕ) (m f i p start count : ℕ) (e : p ≡ i) (s : start 
   collect-outside h = rw (start-word, count-word, lt-leb (start + count) m h)
 
   pub collect-some : start + count ≤ m → m ≤ length ts → count < 4294967296 → (at : ℕ) (out after : List ℕ) → after ≡ sets out at (part ts start count)
-      → Listed (collect a m ts f i (level [] [])) [] at (at + count) 1 out after
+      → Added (collect a m ts f i (level [] [])) [] at (at + count) 1 out after
   unfolding collect
   collect-some h k b at out after w = record {
     list = part ts start count;
@@ -70,14 +70,14 @@ pub fronted-failed : (r : Front) (why : Failure) (l : List ℕ) → r ≡ front.
 unfolding fronted
 fronted-failed r why l e = rw e
 
-pub lists-upto : (r : Collected) (size : ℕ) (out after : List ℕ) (at nodes : ℕ) (s : Level) → r ≡ collected.Upto size → Lists r out after at nodes s → Listed s [] at size nodes out after
+pub lists-upto : (r : Collected) (size : ℕ) (out after : List ℕ) (at nodes : ℕ) (s : Level) → r ≡ collected.Upto size → Lists r out after at nodes s → Added s [] at size nodes out after
 lists-upto r size out after at nodes s e h = rw e at h
 
 pub lists-damaged : (r : Collected) (out after : List ℕ) (at nodes : ℕ) (s : Level) → r ≡ collected.Damaged → Lists r out after at nodes s → s ≡ broken failure.Damaged
 lists-damaged r out after at nodes s e h = rw e at h
 
 module _ (r : Step) (to out after : List ℕ) (at nodes : ℕ) (s : Level) (h : Reaches r to out after at nodes s) where
-  pub reaches-on : (n size : ℕ) → r ≡ step.On n size → (n ≤ length to) × Listed s (take n to) at size nodes out after
+  pub reaches-on : (n size : ℕ) → r ≡ step.On n size → (n ≤ length to) × Added s (take n to) at size nodes out after
   reaches-on n size e = rw e at h
 
   pub reaches-failed : (why : Failure) → r ≡ step.Failed why → s ≡ broken why

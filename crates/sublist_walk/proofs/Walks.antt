@@ -21,7 +21,7 @@ use Rattle.sublist_walk.specs.declared.Failure.the-variants as failure
 use Rattle.sublist_walk.specs.declared.Collected.{Collected}
 use Rattle.sublist_walk.specs.declared.Collected.the-variants as collected
 use Rattle.sublist_walk.specs.declared.Walked as declared
-use Rattle.sublist_walk.specs.Told.{Listed, Lists, Finds, Ends, finished}
+use Rattle.sublist_walk.specs.Told.{Added, Lists, Finds, Ends, finished}
 use Rattle.sublist_walk.proofs.Parts.{sets-behind}
 use Rattle.sublist_walk.proofs.Visits.{all-failed, all-on, exact-any, exact-listed, exact-failed}
 
@@ -113,7 +113,7 @@ module _ (k : ℕ) (a : List ℕ) (n m : ℕ) (ts : List ℕ) where
       unfolding listed
       ends-damaged e = sym last ∙ rw (exact-failed k a n m ts (u .list) front (exact-any k a n m ts (level [] []) front ∙ e))
 
-      ends-found : (size1 i : ℕ) (after : List ℕ) → Listed (exact 0 a 0 m ts (level [] []) front) [] size size1 i now after → Finds w size1 peak out after
+      ends-found : (size1 i : ℕ) (after : List ℕ) → Added (exact 0 a 0 m ts (level [] []) front) [] size size1 i now after → Finds w size1 peak out after
       unfolding listed
       ends-found size1 i after v = record {
         list = u .list ++ v .list;
@@ -141,7 +141,7 @@ module _ (k : ℕ) (a : List ℕ) (n m : ℕ) (ts : List ℕ) where
         unfolding arrived ended
         goes-wrong why e = sym next ∙ rw (all-failed k a n m ts h (u .list) front why (rw g at e), tokens-stuck why rest)
 
-        pub goes-on : (front0 front1 : List ℕ) → front0 ≡ front1 → (peak1 size1 place1 i : ℕ) (after : List ℕ) → Listed (visits k1 a n m ts h (level [] []) front) front0 size size1 i now after
+        pub goes-on : (front0 front1 : List ℕ) → front0 ≡ front1 → (peak1 size1 place1 i : ℕ) (after : List ℕ) → Added (visits k1 a n m ts h (level [] []) front) front0 size size1 i now after
             → peak1 ≡ max peak (length front1) → i ≤ 1024 → place < place1 → Under w k a n m ts front1 peak1 size1 place1 rest out after
         unfolding arrived
         goes-on front0 front1 c peak1 size1 place1 i after v0 p b q =

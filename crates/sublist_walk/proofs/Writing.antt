@@ -4,8 +4,11 @@ use native.Mathlib.Nat.{zero-add}
 use native.Mathlib.Omega.{arith}
 use mathlib.Core.Path.{_≡_, refl, sym, _∙_, ap}
 use mathlib.Core.Bool.{Bool, true, false}
+use mathlib.Core.Logic.{⊎-elim}
 use mathlib.Core.Option.{none}
 use mathlib.Core.List.{List, [], _∷_, map}
+use denote.Enum.Declared.{tagOf}
+use types.Run.{OneOf}
 use lib.Dec.{eqb, ltb, leb}
 use lib.ListN.{length, drop}
 use lib.Seq.{sets, sets-eq, length-sets, take-append-seam}
@@ -23,7 +26,7 @@ use Rattle.subject.specs.declared.Parsed.the-variants.{Accepted, Refused}
 use Rattle.sublist_walk.specs.Walk.{part, Walked, found, failed, walkOver}
 use Rattle.subject.proofs.Refusals.{refused-stands}
 use Rattle.sublist_walk.specs.Matching.{Outcome, outcome, matchAnswer, over, countsFit, written, ifSubject, matchTable, matchParsed}
-use Rattle.sublist_walk.specs.Told.{walkOf, Finds, Ends, Holding, Wrote, tried, Tries, settled}
+use Rattle.sublist_walk.specs.Told.{walkOf, Finds, Ends, Holding, Wrote, tried, settled, Answers, Tries}
 use Rattle.sublist_walk.specs.declared.TableMatch.{TableMatch}
 use Rattle.sublist_walk.specs.declared.TableMatch.the-variants as match
 use Rattle.sublist_walk.specs.declared.Tried.{Tried}
@@ -31,6 +34,7 @@ use Rattle.sublist_walk.specs.declared.Tried.the-variants as try
 use Rattle.sublist_walk.specs.declared.Failure.{Failure}
 use Rattle.sublist_walk.specs.declared.Failure.the-variants as failure
 use Rattle.sublist_walk.proofs.Narrow.{narrow}
+use Rattle.sublist_walk.proofs.Tried.{the-type}
 use Rattle.sublist_walk.specs.declared.Walked as declared
 use Rattle.sublist_walk.specs.declared.Walked.the-variants as walked
 
@@ -78,7 +82,7 @@ module _ (w : Walked) (r : declared.Walked) (before list : List ℕ) (v : Ends r
     not-wide : w ≡ failed failure.Wide → ⊥
     not-wide f = let d = finds .is in let z : _≡_ {A = ℕ} 0 1 = cc in omega arith
 
-    pub try-short : length out < size → Tries (try.Answered (match.OutShort size)) out out w
+    pub try-short : length out < size → Tries (try.OutShort size) out out w
     try-short h = (not-wide, rw (finds .is) (found-short (finds .list) peak size out (finds .sized) h))
 
     -- the walk w, as another call names it
@@ -91,15 +95,24 @@ module _ (w : Walked) (r : declared.Walked) (before list : List ℕ) (v : Ends r
             λ h. rw (finds .stored, d, n) (rw (sets-over l before (omega (arith, h, n, ap length (finds .stored), length-sets before 0 (finds .list)))) (take-append-seam l (drop (length l) before))),
           )
 
-      pub try-listed : size ≤ length out → (after : List ℕ) → Wrote w2 out after → Tries (try.Answered (match.Listed size peak)) out after w
+      pub try-listed : size ≤ length out → (after : List ℕ) → Wrote w2 out after → Tries (try.Listed size peak) out after w
       try-listed h after u = (not-wide, rw (finds .is) (found-whole (finds .list) peak size out after (finds .sized) h (u (finds .list) peak (q ∙ finds .is))))
 
 -- narrow frontiers first, then the widest, of k nodes
 module _ (k : ℕ) (small : 32 ≤ k) (n m : ℕ) (a ts subject out : List ℕ) (t : Tried) (now : List ℕ) (v : Tries t out now (walkOf 32 n m a ts subject)) where
-  pub narrow-answers : (r : TableMatch) → t ≡ try.Answered r → outcome (matchAnswer r) now ≡ written (walkOf k n m a ts subject) out
-  narrow-answers r e =
-      let u : Tries (try.Answered r) out now (walkOf 32 n m a ts subject) = (rw e at v) in
-      u .1 ∙ ap (λ w. written w out) (sym (narrow 32 k small a n m ts (map fnv (tokens subject)) (u .0)))
+  -- a frontier that would pass the limit has the last tag
+  pub narrow-answers : OneOf (0 ∷ 1 ∷ 2 ∷ []) (tagOf the-type t) → (r : TableMatch) → r ≡ settled t → outcome (matchAnswer r) now ≡ written (walkOf k n m a ts subject) out
+  narrow-answers tag r q = rw q (go t tag v)
+    where
+      wider : (y : TableMatch) → Answers y out now (walkOf 32 n m a ts subject) → outcome (matchAnswer y) now ≡ written (walkOf k n m a ts subject) out
+      wider y u = u .1 ∙ ap (λ w. written w out) (sym (narrow 32 k small a n m ts (map fnv (tokens subject)) (u .0)))
+
+      go : (x : Tried) → OneOf (0 ∷ 1 ∷ 2 ∷ []) (tagOf the-type x) → Tries x out now (walkOf 32 n m a ts subject)
+          → outcome (matchAnswer (settled x)) now ≡ written (walkOf k n m a ts subject) out
+      go (try.Listed count peak) o u = wider (match.Listed count peak) u
+      go (try.OutShort needed) o u = wider (match.OutShort needed) u
+      go try.Damaged o u = wider match.Damaged u
+      go try.Wide o u = absurd (⊎-elim (λ e. omega arith) (λ p. ⊎-elim (λ e. omega arith) (λ e. omega arith) p) o)
 
   -- the second match finds the output as it was
   pub wide-answers : t ≡ try.Wide → (x : Outcome) → x ≡ written (walkOf k n m a ts subject) now → x ≡ written (walkOf k n m a ts subject) out
@@ -112,7 +125,9 @@ pub settles : (t : Tried) (out after : List ℕ) (w : Walked) → Tries t out af
 settles t out after w v r q = rw q (go t v)
   where
     go : (x : Tried) → Tries x out after w → outcome (matchAnswer (settled x)) after ≡ written w out
-    go (try.Answered y) u = u .1
+    go (try.Listed count peak) u = u .1
+    go (try.OutShort needed) u = u .1
+    go try.Damaged u = u .1
     go try.Wide u = rw (u .0, u .1)
 
 -- the counts

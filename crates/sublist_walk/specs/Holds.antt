@@ -34,8 +34,8 @@ Leads n label ks k under Damaged = ⊥
 abbrev pub Says : List ℕ → ℕ → List ℕ → ℕ → ℕ → List ℕ → Type 0
 Says a m ts i f targets = (word a i f + word a i (f + 1) ≤ m) × (part ts (word a i f) (word a i (f + 1)) ≡ targets)
 
--- keys of any kind: `eq` compares them, `P` is what is asked of a literal that is sought, and `look i k` is what the lookup
--- by k at node i says
+-- keys of any kind: `eq` compares them, `P` is what is asked of a literal that is sought, and `look i k` is what the
+-- lookup by k at node i says
 pub record HoldsBy {K : Type 0} (eq : K → K → Bool) (P : K → Type 0) (look : ℕ → Key K → Child)
     (a : List ℕ) (n m : ℕ) (ts : List ℕ) (ls : List (Line K)) : Type 0 where
   pub rooted : 0 < n

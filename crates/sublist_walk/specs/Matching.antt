@@ -34,7 +34,7 @@ pub data Outcome : Type 0 where
 
 -- 19 in the walk, then 21
 abbrev pub written : Walked → List ℕ → Outcome
-written (failed w) out = outcome (answer 19 []) out
+written (failed why) out = outcome (answer 19 []) out
 written (found list peak) out =
     pick (ltb (length out) (length list)) (outcome (answer 21 (length list ∷ [])) out)
     (outcome (answer 0 (length list ∷ peak ∷ [])) (over list out))

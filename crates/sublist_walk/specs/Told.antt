@@ -50,9 +50,9 @@ within (front.Failed why) k = Unit {0}
 abbrev pub Turn : ℕ → ℕ → Type 0
 Turn from k = (from ≡ 0) ⊎ (from ≡ k)
 
--- the level s has the frontier `next` and a list. Behind the `at` targets before it the list makes `size`, at most 2^32 more
--- for each node read, and the output, `out` before and `after` now, holds it from place `at` on, as far as that goes.
-pub record Listed (s : Level) (next : List ℕ) (at size nodes : ℕ) (out after : List ℕ) : Type 0 where
+-- the level s has the frontier `next` and a list. Behind the `at` targets before it the list makes `size`, at most 2^32
+-- more for each node read, and the output, `out` before and `after` now, holds it from place `at` on, as far as that goes
+pub record Added (s : Level) (next : List ℕ) (at size nodes : ℕ) (out after : List ℕ) : Type 0 where
   pub list : List ℕ
   pub is : s ≡ level next list
   pub sized : size ≡ at + length list
@@ -60,11 +60,11 @@ pub record Listed (s : Level) (next : List ℕ) (at size nodes : ℕ) (out after
   pub stored : after ≡ sets out at list
 
 abbrev pub Lists : Collected → List ℕ → List ℕ → ℕ → ℕ → Level → Type 0
-Lists (collected.Upto size) out after at nodes s = Listed s [] at size nodes out after
+Lists (collected.Upto size) out after at nodes s = Added s [] at size nodes out after
 Lists collected.Damaged out after at nodes s = s ≡ broken failure.Damaged
 
 abbrev pub Reaches : Step → List ℕ → List ℕ → List ℕ → ℕ → ℕ → Level → Type 0
-Reaches (step.On n size) to out after at nodes s = (n ≤ length to) × Listed s (take n to) at size nodes out after
+Reaches (step.On n size) to out after at nodes s = (n ≤ length to) × Added s (take n to) at size nodes out after
 Reaches (step.Failed why) to out after at nodes s = s ≡ broken why
 
 -- the walk w ends with this peak and a list of `size` targets, which the output holds from the first place on,
@@ -96,15 +96,23 @@ Wrote w out after = (l : List ℕ) (peak : ℕ) → w ≡ found l peak → after
 -- a walk that failed, as a match within its limit
 abbrev pub tried : Failure → Tried
 tried failure.Wide = try.Wide
-tried failure.Damaged = try.Answered match.Damaged
+tried failure.Damaged = try.Damaged
 
--- what a match within a limit says, where its walk is w: the match's answer; or that a frontier would pass the limit,
--- and the output is as it was
-abbrev pub Tries : Tried → List ℕ → List ℕ → Walked → Type 0
-Tries (try.Answered r) out after w = (w ≡ failed failure.Wide → ⊥) × (outcome (matchAnswer r) after ≡ written w out)
-Tries try.Wide out after w = (w ≡ failed failure.Wide) × (after ≡ out)
-
--- the same where no wider limit is left: 19
+-- a match as told outside: 19 where a frontier would pass the limit
 abbrev pub settled : Tried → TableMatch
-settled (try.Answered r) = r
+settled (try.Listed count peak) = match.Listed count peak
+settled (try.OutShort needed) = match.OutShort needed
+settled try.Damaged = match.Damaged
 settled try.Wide = match.Damaged
+
+-- the walk w does not pass its limit, and the match answers r
+abbrev pub Answers : TableMatch → List ℕ → List ℕ → Walked → Type 0
+Answers r out after w = (w ≡ failed failure.Wide → ⊥) × (outcome (matchAnswer r) after ≡ written w out)
+
+-- what a match within a limit says, where its walk is w: an answer; or that a frontier would pass the limit, and the
+-- output is as it was
+abbrev pub Tries : Tried → List ℕ → List ℕ → Walked → Type 0
+Tries (try.Listed count peak) out after w = Answers (match.Listed count peak) out after w
+Tries (try.OutShort needed) out after w = Answers (match.OutShort needed) out after w
+Tries try.Damaged out after w = Answers match.Damaged out after w
+Tries try.Wide out after w = (w ≡ failed failure.Wide) × (after ≡ out)

@@ -21,8 +21,8 @@ abbrev pub among : ℕ → List ℕ → Bool
 among j [] = false
 among j (i ∷ is) = or (eqb j i) (among j is)
 
--- a level half done: the next frontier and the list so far; or why the walk fails there: a frontier would pass its limit,
--- or a number points outside
+-- a level half done: the next frontier and the list so far; or why the walk fails there: a frontier would pass its
+-- limit, or a number points outside
 pub data Level : Type 0 where
   level : List ℕ → List ℕ → Level
   broken : Failure → Level

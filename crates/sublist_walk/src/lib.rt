@@ -71,9 +71,11 @@ enum Walked {
     Failed(Failure),
 }
 
-// A match within a limit, or a frontier that would pass it.
+// A match within a limit, or a frontier that would pass it. Without the case of a refused text it is handed back faster.
 enum Tried {
-    Answered(TableMatch),
+    Listed { count: usize, peak: usize },
+    OutShort(usize),
+    Damaged,
     Wide,
 }
 
@@ -423,8 +425,8 @@ fn walk(
     Walked::Found { length: size, peak }
 }
 
-// The list of a walk, of `count` targets, goes to the output: from `list`, to which the walk wrote as much as that holds,
-// or by a second walk.
+// The list of a walk, of `count` targets, goes to the output: from `list`, to which the walk wrote as much as that
+// holds, or by a second walk.
 fn write_list(
     nodes: usize,
     targets: usize,
@@ -461,7 +463,7 @@ fn failed_try(failure: Failure) -> Tried
 {
     match failure {
         Failure::Wide => Tried::Wide,
-        Failure::Damaged => Tried::Answered(TableMatch::Damaged),
+        Failure::Damaged => Tried::Damaged,
     }
 }
 
@@ -498,7 +500,7 @@ fn match_within(
         Walked::Failed(f) => failed_try(f),
         Walked::Found { length, peak } => {
             if out.len() < length {
-                return Tried::Answered(TableMatch::OutShort(length));
+                return Tried::OutShort(length);
             }
             write_list(
                 nodes,
@@ -511,10 +513,10 @@ fn match_within(
                 length,
                 out,
             );
-            Tried::Answered(TableMatch::Listed {
+            Tried::Listed {
                 count: length,
                 peak,
-            })
+            }
         }
     }
 }
@@ -549,12 +551,14 @@ fn match_narrow(
     )
 }
 
-// The match within the widest frontiers: one that would pass its limit is 19.
+// A match as told outside: 19 where a frontier would pass the limit.
 fn settle(tried: Tried) -> TableMatch
     ensures { λ r. ⌜ r ≡ settled tried ⌝ }
 {
     match tried {
-        Tried::Answered(r) => r,
+        Tried::Listed { count, peak } => TableMatch::Listed { count, peak },
+        Tried::OutShort(needed) => TableMatch::OutShort(needed),
+        Tried::Damaged => TableMatch::Damaged,
         Tried::Wide => TableMatch::Damaged,
     }
 }
@@ -605,8 +609,8 @@ pub fn counts_fit(nodes: usize, targets: usize, node_words: &[u32], target_words
     targets <= target_words.len()
 }
 
-// A match for a subject that the caller has parsed: 1, then 19, then 21. Narrow frontiers come first; where one would pass
-// its limit, all again within the widest.
+// A match for a subject that the caller has parsed: 1, then 19, then 21.
+// Narrow frontiers come first; where one would pass its limit, all again within the widest.
 pub fn match_parsed(
     nodes: usize,
     targets: usize,
@@ -626,10 +630,11 @@ pub fn match_parsed(
     if !counts_fit(nodes, targets, node_words, target_words) {
         return TableMatch::Damaged;
     }
-    match match_narrow(nodes, targets, node_words, target_words, subject, out) {
-        Tried::Answered(r) => r,
-        Tried::Wide => match_wide(nodes, targets, node_words, target_words, subject, out),
+    let tried = match_narrow(nodes, targets, node_words, target_words, subject, out);
+    if let Tried::Wide = tried {
+        return match_wide(nodes, targets, node_words, target_words, subject, out);
     }
+    settle(tried)
 }
 
 // The refusal of a subject's text, as that of a match.

@@ -6,7 +6,7 @@ use mathlib.Core.List.{[]}
 use lib.ListN.{length, take}
 use borrow.Author.Needs.{needs}
 use Rattle.sublist_walk.specs.Walk.{level, exact}
-use Rattle.sublist_walk.specs.Told.{Listed}
+use Rattle.sublist_walk.specs.Told.{Added}
 use Rattle.sublist_walk.proofs.Visits.{listed-none, exact-on, exact-outside}
 use Rattle.sublist_walk.proofs.Levels.{lists-upto, lists-damaged}
 use Rattle.sublist_walk.proofs.collect_exact.Statement.{statement}
@@ -14,7 +14,7 @@ use Rattle.sublist_walk.proofs.collect_exact.Tie as tie
 
 abbrev Inv-loop : tie.InvT-loop
 Inv-loop targets node_words target_words from n out₀ at i₀ size₀ out i size =
-    Listed (exact 0 node_words 0 targets target_words (level [] []) (take i from)) [] at size i out₀ out
+    Added (exact 0 node_words 0 targets target_words (level [] []) (take i from)) [] at size i out₀ out
     × (length out ≡ length out₀)
     × (i ≤ n)
 

@@ -34,9 +34,6 @@ match-narrow-requires c κs =
     let a = start .args in
     (counts-targets (a .nodes) (a .targets) (a .node-words .now) (a .target-words .now) (sym (not-false _ (else2 .if2 .left)) ∙ after-counts-fit .counts-fit .ensures), else1 .if1 .left)
 
-enum-known-r : tie.Need-enum-known-r
-enum-known-r c = search needs
-
 enum-told : tie.Need-enum-told
 enum-told c = search needs
 
@@ -56,22 +53,6 @@ same-length c = search needs
 
 returns-3 : tie.Need-returns-3
 returns-3 c =
-    let after-r = c .before in
-    let after-match-narrow = after-r .before .before .before .before in
-    let else2 = after-match-narrow .before .before in
-    let after-counts-fit = else2 .before in
-    let else1 = after-counts-fit .before in
-    let start = else1 .before .before .before .before .before in
-    let a = start .args in
-    let k = after-match-narrow .match-narrow in
-    parsed-counted (a .nodes) (a .targets) (a .node-words .now) (a .target-words .now) (a .subject .now) (a .out .now) (else1 .if1 .left) (sym (not-false _ (else2 .if2 .left)) ∙ after-counts-fit .counts-fit .ensures) _
-    (narrow-answers 1024 (omega arith) (a .nodes) (a .targets) (a .node-words .now) (a .target-words .now) (a .subject .now) (a .out .now) (k .result) _ (k .ensures) _ (after-r .r .given .1))
-
-same-length-2 : tie.Need-same-length-2
-same-length-2 c = search needs
-
-returns-4 : tie.Need-returns-4
-returns-4 c =
     let after-match-wide = c .before .before in
     let after-enum-told = after-match-wide .before .before in
     let after-match-narrow = after-enum-told .before .before .before .before in
@@ -84,6 +65,25 @@ returns-4 c =
     parsed-counted (a .nodes) (a .targets) (a .node-words .now) (a .target-words .now) (a .subject .now) (a .out .now) (else1 .if1 .left) (sym (not-false _ (else2 .if2 .left)) ∙ after-counts-fit .counts-fit .ensures) _
     (wide-answers 1024 (omega arith) (a .nodes) (a .targets) (a .node-words .now) (a .target-words .now) (a .subject .now) (a .out .now) (k .result) _ (k .ensures) (after-enum-told .enum-told .given .1) _ (after-match-wide .match-wide .ensures))
 
+settle-requires : tie.Need-settle-requires
+settle-requires c κs = search needs
+
+same-length-2 : tie.Need-same-length-2
+same-length-2 c = search needs
+
+returns-4 : tie.Need-returns-4
+returns-4 c =
+    let at-match = c .before in
+    let after-match-narrow = at-match .before .before .before in
+    let else2 = after-match-narrow .before .before in
+    let after-counts-fit = else2 .before in
+    let else1 = after-counts-fit .before in
+    let start = else1 .before .before .before .before .before in
+    let a = start .args in
+    let k = after-match-narrow .match-narrow in
+    parsed-counted (a .nodes) (a .targets) (a .node-words .now) (a .target-words .now) (a .subject .now) (a .out .now) (else1 .if1 .left) (sym (not-false _ (else2 .if2 .left)) ∙ after-counts-fit .counts-fit .ensures) _
+    (narrow-answers 1024 (omega arith) (a .nodes) (a .targets) (a .node-words .now) (a .target-words .now) (a .subject .now) (a .out .now) (k .result) _ (k .ensures) (at-match .match .keys2) (c .settle .result) (c .settle .ensures))
+
 pub match-parsed-spec : {M : Type 1} → statement M
 match-parsed-spec =
     tie.close
@@ -92,10 +92,10 @@ match-parsed-spec =
     counts-fit-requires
     returns-2
     match-narrow-requires
-    enum-known-r
     enum-told
     match-wide-requires
     same-length
     returns-3
+    settle-requires
     same-length-2
     returns-4)

@@ -24,9 +24,11 @@ same-length c = search needs
 
 returns-2 : tie.Need-returns-2
 returns-2 c =
-    let s = c .before .before .before .before .before .before .before in
+    let after-stands = c .before in
+    let after-child = after-stands .before .before .before in
+    let s = after-child .before .before .before in
     let a = s .args in
-    (push-there (a .front .now) (a .n) (s .pre) (a .child) _ (c .before .before .before .before .child .given .1) (sym (c .if1 .taken) ∙ c .before .stands .ensures), s .pre)
+    (push-there (a .front .now) (a .n) (s .pre) (a .child) _ (after-child .child .given .1) (sym (c .if1 .taken) ∙ after-stands .stands .ensures), s .pre)
 
 mul-front : tie.Need-mul-front
 mul-front c = search needs
@@ -42,18 +44,24 @@ same-length-2 c = search needs
 
 returns-3 : tie.Need-returns-3
 returns-3 c =
-    let s = c .before .before .before .before .before .before .before .before in
+    let else1 = c .before in
+    let after-stands = else1 .before in
+    let after-child = after-stands .before .before .before in
+    let s = after-child .before .before .before in
     let a = s .args in
-    (push-new (a .front .now) (a .n) (s .pre) (a .child) _ (c .before .before .before .before .before .child .given .1) (sym (c .before .if1 .left) ∙ c .before .before .stands .ensures) (c .if2 .taken), search needs)
+    (push-new (a .front .now) (a .n) (s .pre) (a .child) _ (after-child .child .given .1) (sym (else1 .if1 .left) ∙ after-stands .stands .ensures) (c .if2 .taken), search needs)
 
 same-length-3 : tie.Need-same-length-3
 same-length-3 c = search needs
 
 returns-4 : tie.Need-returns-4
 returns-4 c =
-    let s = c .before .before .before .before .before .before .before .before in
+    let else1 = c .before in
+    let after-stands = else1 .before in
+    let after-child = after-stands .before .before .before in
+    let s = after-child .before .before .before in
     let a = s .args in
-    (push-wide (a .front .now) (a .n) (s .pre) (a .child) _ (c .before .before .before .before .before .child .given .1) (sym (c .before .if1 .left) ∙ c .before .before .stands .ensures) (c .if2 .left) _, tt)
+    (push-wide (a .front .now) (a .n) (s .pre) (a .child) _ (after-child .child .given .1) (sym (else1 .if1 .left) ∙ after-stands .stands .ensures) (c .if2 .left) _, tt)
 
 pub push-child-spec : {M : Type 1} → statement M
 push-child-spec =

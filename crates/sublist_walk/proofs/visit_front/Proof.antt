@@ -7,7 +7,7 @@ use lib.ListN.{length, take, drop}
 use borrow.Author.Needs.{needs}
 use borrow.Rule.Slice.PartMut.{same-len-mid}
 use Rattle.sublist_walk.specs.Walk.{part, level, visits}
-use Rattle.sublist_walk.specs.Told.{Listed}
+use Rattle.sublist_walk.specs.Told.{Added}
 use Rattle.sublist_walk.proofs.Visits.{listed-none}
 use Rattle.sublist_walk.proofs.Levels.{part-length, reaches-on, reaches-failed}
 use Rattle.sublist_walk.proofs.Lending.{turn-within}
@@ -17,7 +17,7 @@ use Rattle.sublist_walk.proofs.visit_front.Tie as tie
 
 abbrev Inv-loop : tie.InvT-loop
 Inv-loop nodes targets node-words target-words hash both₀ from n out₀ at limit start end i₀ next₀ size₀ both out i next size =
-    Listed (visits limit node-words nodes targets target-words hash (level [] []) (take i (drop from both₀))) (take next (part both start limit)) at size i out₀ out
+    Added (visits limit node-words nodes targets target-words hash (level [] []) (take i (drop from both₀))) (take next (part both start limit)) at size i out₀ out
     × (next ≤ limit)
     × (part both from n ≡ part both₀ from n)
     × (length both ≡ length both₀)
