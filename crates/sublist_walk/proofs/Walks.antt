@@ -2,19 +2,16 @@
 use Prim.Native.Nat.{ℕ, _+_, _-_, _*_, _≤_, _<_, max}
 use native.Mathlib.Omega.{arith}
 use mathlib.Core.Path.{_≡_, refl, sym, _∙_}
-use mathlib.Core.Bool.{Bool, true, false}
 use mathlib.Core.List.{List, [], _∷_, _++_, map}
-use lib.Dec.{leb}
 use lib.ListN.{length, take, set, length-append}
 use lib.Seq.{take-suc-set, sets}
-use borrow.Author.Tests.{leb-true, leb-false}
-use Rattle.subject.specs.Choice.{pick}
 use Rattle.subject.specs.Text.{tokens}
 use Rattle.subject.specs.declared.Token.{Token}
 use Rattle.subject.specs.declared.Token.the-variants.{Part, End}
 use Rattle.subject.specs.Fnv.{fnv}
-use Rattle.subject.specs.Reading.{dotFrom, tokensFrom, tokenAt}
-use Rattle.subject.proofs.Positions.{dot-from, dot-within, tokens-start, tokens-next, tokens-end}
+use Rattle.subject.specs.Reading.{tokensFrom, tokenAt}
+use Rattle.subject.proofs.Positions.{tokens-start, tokens-end}
+use Rattle.subject.proofs.Places.{part-found, end-found}
 use Rattle.sublist_walk.specs.Walk.{part, level, broken, at, stuck, Walked, failed, visits, arrived, onToken, onTokens, exact, listed, ended, walkOver}
 use Rattle.sublist_walk.specs.declared.Failure.{Failure}
 use Rattle.sublist_walk.specs.declared.Failure.the-variants as failure
@@ -36,36 +33,16 @@ pub record Under (w : Walked) (k : ℕ) (a : List ℕ) (n m : ℕ) (ts front : L
 -- the token at a place, and the hashes left from there on
 module _ (subject : List ℕ) (place : ℕ) (r : Token) (e : r ≡ tokenAt subject place) where
   module _ (start end next : ℕ) (f : r ≡ Part start end next) where
-    token-is : (start ≡ place) × (end ≡ dotFrom subject place) × (next ≡ dotFrom subject place + 1) × (place ≤ length subject)
-    unfolding tokenAt
-    token-is = go (leb place (length subject)) refl (sym e ∙ f)
-      where
-        go : (b : Bool) → leb place (length subject) ≡ b → pick b (Part place (dotFrom subject place) (dotFrom subject place + 1)) End ≡ Part start end next
-            → (start ≡ place) × (end ≡ dotFrom subject place) × (next ≡ dotFrom subject place + 1) × (place ≤ length subject)
-        go true l q =
-            let x : start ≡ place = cc in
-            let y : end ≡ dotFrom subject place = cc in
-            let z : next ≡ dotFrom subject place + 1 = cc in
-            (x, y, z, leb-true place (length subject) l)
-        go false l q = let z : _≡_ {A = ℕ} 0 1 = cc in absurd (omega arith)
-
     pub token-bounds : (start ≤ end) × (end ≤ length subject) × (place < next) × (next ≤ length subject + 1)
     token-bounds =
-        let t = token-is in
-        let l = dot-from subject place in
-        let m = dot-within subject place (t .3) in
-        (omega (arith, t, l), omega (arith, t, m), omega (arith, t, l), omega (arith, t, m))
+        let t = part-found subject place start end next r e f in
+        (t .within .0, t .within .1, t .moves .0, t .moves .1)
 
     pub hashes-next : (h : ℕ) → h ≡ fnv (part subject start (end - start)) → map fnv (tokensFrom subject place) ≡ h ∷ map fnv (tokensFrom subject next)
-    hashes-next h g = let t = token-is in rw (g, t .0, t .1, t .2, tokens-next subject place (t .3))
+    hashes-next h g = rw (g, part-found subject place start end next r e f .left)
 
   pub hashes-end : r ≡ End → map fnv (tokensFrom subject place) ≡ []
-  unfolding tokenAt
-  hashes-end f = rw (tokens-end subject place (go (leb place (length subject)) refl (sym e ∙ f)))
-    where
-      go : (b : Bool) → leb place (length subject) ≡ b → pick b (Part place (dotFrom subject place) (dotFrom subject place + 1)) End ≡ End → length subject < place
-      go true l q = let z : _≡_ {A = ℕ} 0 1 = cc in absurd (omega arith)
-      go false l q = leb-false place (length subject) l
+  hashes-end f = rw (tokens-end subject place (end-found subject place r e f))
 
 module _ (k : ℕ) (a : List ℕ) (n m : ℕ) (ts : List ℕ) where
   -- the root alone
