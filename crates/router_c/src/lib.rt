@@ -31,6 +31,7 @@ pub use tables::router_match_bytes;
 pub use texts::router_depth;
 pub use texts::router_has_tail_wildcard;
 pub use texts::router_matches;
+pub use texts::router_nth_token;
 pub use texts::router_parse;
 pub use texts::router_parse_literal;
 pub use texts::router_token_hash;

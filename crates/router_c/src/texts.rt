@@ -4,6 +4,8 @@ ghost use mathlib.Core.Path.{_≡_};
 ghost use mathlib.Core.Bool.{true, false};
 ghost use lib.ListN.{length};
 ghost use Rattle.subject.specs.Text.{tokens, endsInTail};
+ghost use Rattle.subject.specs.Reading.{placeIn};
+ghost use Rattle.subject.specs.Answers.{placed};
 ghost use Rattle.subject.specs.Grammar.{grammar};
 ghost use Rattle.subject.specs.Matching.{matching};
 ghost use Rattle.subject.specs.Fnv.{fnv};
@@ -55,4 +57,12 @@ pub extern "C" fn router_has_tail_wildcard(text: &[u8]) -> u64
     ensures { λ r. ⌜ r ≡ bit (endsInTail (tokens (now (text .entry)))) ⌝ }
 {
     subject::has_tail_wildcard(text) as u64
+}
+
+// Where token n of a text lies, counted from 0: 1, its first position and the one behind its last; or 0.
+#[no_mangle]
+pub extern "C" fn router_nth_token(text: &[u8], n: usize) -> CAnswer
+    ensures { λ r. ⌜ Says r (placed (placeIn 0 (tokens (now (text .entry))) n)) ⌝ }
+{
+    router_words::to_c_token(subject::nth_token(text, n))
 }

@@ -11,6 +11,7 @@ use resolve_cache::Tick;
 use subject::Matched;
 use subject::Parsed;
 use subject::SubjectError;
+use subject::Token;
 use sublist::Built;
 use sublist::SublistError;
 use sublist_entries::Inserted;
@@ -23,7 +24,7 @@ use sublist_snapshot::Stored;
 use sublist_walk::TableMatch;
 ghost use mathlib.Core.Path.{_≡_};
 ghost use mathlib.Core.List.{[], _∷_, _++_};
-ghost use Rattle.subject.specs.Answers.{answer, refusal, parsed, matched};
+ghost use Rattle.subject.specs.Answers.{answer, refusal, parsed, matched, placed};
 ghost use Rattle.sublist_entries.specs.Answers.{insertAnswer};
 ghost use Rattle.sublist.specs.Building.{held};
 ghost use Rattle.sublist.specs.Answers.{buildRefusal, buildAnswer};
@@ -194,6 +195,25 @@ pub fn to_c_matched(m: Matched) -> CAnswer
         Matched::Yes => with_value(0, 1),
         Matched::No => with_value(0, 0),
         Matched::Invalid(e) => to_c_refusal(e),
+    }
+}
+
+// The place of a token: 1, its first position and the one behind its last; or 0.
+pub fn to_c_token(t: Token) -> CAnswer
+    ensures { λ r. ⌜ Says r (placed t) ⌝ }
+{
+    match t {
+        Token::Part {
+            start,
+            end,
+            next: _,
+        } => CAnswer {
+            number: 0,
+            first: 1,
+            second: start as u64,
+            third: end as u64,
+        },
+        Token::End => plain(0),
     }
 }
 
