@@ -111,6 +111,20 @@ pub fn depth_and_tail(text: &[u8]) -> (u64, bool) {
     (tokens.count() as u64, tail)
 }
 
+/// `SubjectPattern::tokens`: where each token stands, start and end. The original has them for patterns only; any other text is split at its dots.
+pub fn tokens(text: &[u8]) -> impl Iterator<Item = (usize, usize)> + '_ {
+    let pattern = pattern_of(text).ok();
+    let other = pattern.is_none().then(|| text.split(|&byte| byte == b'.'));
+    let tokens = pattern.into_iter().flat_map(|pattern| pattern.tokens());
+    let tokens = tokens.map(str::as_bytes).chain(other.into_iter().flatten());
+    tokens.scan(0, |next, token| {
+        let start = *next;
+        let end = start + token.len();
+        *next = end + 1;
+        Some((start, end))
+    })
+}
+
 /// The hash by which the original's table tells tokens apart.
 pub fn token_hash(token: &[u8]) -> u64 {
     xxh3_64(token)

@@ -46,5 +46,7 @@ pub use binding::{
 pub use limits::*;
 pub use refusal::{Refusal, TextRefusal};
 pub use resolve_cache::{Listed, ResolveCache};
-pub use subject::{depth, has_tail_wildcard, matches, parse, parse_literal, token_hash};
+pub use subject::{
+    depth, has_tail_wildcard, matches, nth_token, parse, parse_literal, token_hash, tokens,
+};
 pub use sublist::{build, Built, List, Match, Snapshot, Table};

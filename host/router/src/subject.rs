@@ -1,6 +1,7 @@
 //! Texts: subjects and patterns, and whether one matches the other.
 use crate::answers::{accepted, size};
 use crate::{raw, Refusal};
+use core::ops::Range;
 
 /// A text as a literal subject: its token count, 1 to 32, or why it is refused (1 to 9).
 pub fn parse_literal(text: &[u8]) -> Result<usize, Refusal> {
@@ -30,6 +31,17 @@ pub fn depth(text: &[u8]) -> usize {
 /// Whether the last token of a text, accepted or not, is `>`.
 pub fn has_tail_wildcard(text: &[u8]) -> bool {
     raw::has_tail_wildcard(text)
+}
+
+/// Where token `n` of a text stands, counted from 0, accepted or not; none where it has fewer.
+pub fn nth_token(text: &[u8], n: usize) -> Option<Range<usize>> {
+    let token = raw::nth_token(text, n);
+    (token.first == 1).then(|| size(token.second)..size(token.third))
+}
+
+/// The tokens of a text, accepted or not, in order. Each is looked for from the start of the text.
+pub fn tokens(text: &[u8]) -> impl Iterator<Item = &[u8]> {
+    (0..).map_while(|n| text.get(nth_token(text, n)?))
 }
 
 #[cfg(test)]
@@ -63,5 +75,22 @@ mod tests {
         assert_eq!(token_hash(b""), 0xcbf2_9ce4_8422_2325);
         assert_eq!((depth(b"a..b"), depth(b"")), (3, 1));
         assert!(has_tail_wildcard(b"a.>") && !has_tail_wildcard(b"a>"));
+    }
+
+    #[test]
+    fn tokens_in_turn() {
+        let text = b"yard.north.17";
+        assert_eq!(nth_token(text, 0), Some(0..4));
+        assert_eq!(nth_token(text, 2), Some(11..13));
+        assert_eq!(
+            (nth_token(text, 3), nth_token(text, usize::MAX)),
+            (None, None)
+        );
+        assert_eq!((nth_token(b"", 0), nth_token(b"", 1)), (Some(0..0), None));
+        assert_eq!(nth_token(b"a..b.", 1), Some(2..2));
+        assert_eq!(nth_token(b"a..b.", 3), Some(5..5));
+        assert!(tokens(text).eq([&b"yard"[..], b"north", b"17"]));
+        assert!(tokens(b".").eq([b"", b""]));
+        assert_eq!(tokens(b"\xff.>.*").count(), depth(b"\xff.>.*"));
     }
 }

@@ -26,7 +26,7 @@ impl<'d, 'f> Order<'d, 'f> {
     /// How far lines go along with the subject: the first tokens of one that goes furthest.
     pub fn furthest(&self, subject: &[u8]) -> Vec<u8> {
         let stars = self.words.furthest(subject);
-        let tokens = subject.split(|&byte| byte == b'.').zip(stars);
+        let tokens = router::tokens(subject).zip(stars);
         let tokens = tokens.map(|(token, star)| if star { &b"*"[..] } else { token });
         tokens.collect::<Vec<_>>().join(&b'.')
     }

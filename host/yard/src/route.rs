@@ -80,7 +80,7 @@ fn hint(subject: &[u8], furthest: &[u8]) -> String {
     } else {
         router::depth(furthest)
     };
-    let next = subject.split(|&byte| byte == b'.').nth(known).map(shown);
+    let next = router::tokens(subject).nth(known).map(shown);
     let furthest = shown(furthest);
     match next {
         Some(next) if known == 0 => format!("no line begins with `{next}`"),

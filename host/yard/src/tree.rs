@@ -18,7 +18,7 @@ type Names<'f> = BTreeMap<u64, Vec<&'f [u8]>>;
 fn names<'f>(lines: &[Line<'f>]) -> Names<'f> {
     let mut names = Names::new();
     for line in lines {
-        for token in line.pattern.split(|&byte| byte == b'.') {
+        for token in router::tokens(line.pattern) {
             let known = names.entry(router::token_hash(token)).or_default();
             if !known.contains(&token) {
                 known.push(token);
@@ -171,14 +171,12 @@ impl<'t, 'f> Tree<'t, 'f> {
 
     /// The node at the end of some tokens.
     fn find(&self, tokens: &[u8]) -> Option<usize> {
-        tokens
-            .split(|&byte| byte == b'.')
-            .try_fold(ROOT, |node, token| {
-                if token == b"*" {
-                    return self.words.star(node);
-                }
-                self.words.literal(node, router::token_hash(token))
-            })
+        router::tokens(tokens).try_fold(ROOT, |node, token| {
+            if token == b"*" {
+                return self.words.star(node);
+            }
+            self.words.literal(node, router::token_hash(token))
+        })
     }
 
     fn targets_json(&self, places: &[u32]) -> String {

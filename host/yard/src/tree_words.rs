@@ -75,7 +75,7 @@ impl<'t> Words<'t> {
     /// How far patterns go along with a subject, `>` aside: for each of its first tokens, whether `*` stands for it. Names go before `*`.
     pub fn furthest(&self, subject: &[u8]) -> Vec<bool> {
         let mut front = vec![(ROOT, Vec::new())];
-        for token in subject.split(|&byte| byte == b'.') {
+        for token in router::tokens(subject) {
             let hash = router::token_hash(token);
             let mut next = Vec::new();
             for (node, stars) in &front {

@@ -18,6 +18,9 @@ calls! {
     /// The number of tokens of a text.
     pub fn depth(text: &[u8]) -> u64 = router_depth;
 
+    /// Where token `n` of a text stands, counted from 0: 1, its start and its end; or 0 where there is none.
+    pub fn nth_token(text: &[u8], n: usize) -> Answer = router_nth_token;
+
     fn tail_wildcards(text: &[u8]) -> u64 = router_has_tail_wildcard;
 }
 

@@ -1,6 +1,7 @@
 //! The comparisons themselves, and their count.
 use crate::seen::Seen;
 use compare::lists::Line;
+use compare::model_snapshot::answer;
 use compare::original;
 use router::raw::{self, Answer};
 use std::collections::BTreeMap;
@@ -123,7 +124,7 @@ impl Tally {
         self.total
     }
 
-    /// A text as a subject and as a pattern, its depth, and whether it ends in `>`.
+    /// A text as a subject and as a pattern, its depth, whether it ends in `>`, and its tokens.
     pub fn text(&mut self, text: &[u8]) {
         let inputs = [text];
         let ours = raw::parse_literal(text);
@@ -138,6 +139,21 @@ impl Tally {
         self.compare("depth", &inputs, raw::depth(text), depth);
         let ours = raw::has_tail_wildcard(text);
         self.compare("has_tail_wildcard", &inputs, ours, tail);
+        self.tokens(text);
+    }
+
+    /// Each token of a text, and that there is none behind the last.
+    fn tokens(&mut self, text: &[u8]) {
+        let mut count = 0;
+        for (start, end) in original::tokens(text) {
+            let theirs = answer(0, &[1, start, end]);
+            self.compare("nth_token", &[text], raw::nth_token(text, count), theirs);
+            count += 1;
+        }
+        for none in [count, usize::MAX] {
+            let ours = raw::nth_token(text, none);
+            self.compare("nth_token behind the last", &[text], ours, answer(0, &[]));
+        }
     }
 
     /// A pattern against a subject.
