@@ -1,8 +1,29 @@
-//! The calls on a cache and on verdicts.
+//! The calls on what a cabinet keeps: the snapshot in which a table stands, and a cache; and verdicts.
 use super::calls::calls;
-use super::{Answer, CacheState, MadeCache, Resolved, SnapshotState, Verdict};
+use super::{Answer, CacheState, MadeCache, MadeSnapshot, Resolved, SnapshotState, Stored, Verdict};
 
 calls! {
+    /// A snapshot with a copy of a first table in its area, which keeps its generation; the first store will stamp 1. Or 19, 20.
+    pub fn snapshot_new(
+        nodes: usize, targets: usize, generation: u64, node_words: &[u32], target_words: &[u32],
+        area: &mut [u32],
+    ) -> MadeSnapshot = router_snapshot_new;
+
+    /// A snapshot whose first table has no entries. Or 20.
+    pub fn snapshot_empty(area: &mut [u32]) -> MadeSnapshot = router_snapshot_empty;
+
+    /// A table is copied into the snapshot's area, stamped with the counter, and stands from then on. Its own generation is not used. Or 19, 20.
+    pub fn store(
+        snapshot: SnapshotState,
+        nodes: usize, targets: usize, generation: u64, node_words: &[u32], target_words: &[u32],
+        area: &mut [u32],
+    ) -> Stored = router_store;
+
+    /// The targets that a subject matches in the standing table, written to `out`: their number, the peak and the generation, or 1 to 9, 19, 21.
+    pub fn snapshot_match(
+        snapshot: SnapshotState, area: &[u32], subject: &[u8], out: &mut [u32],
+    ) -> Answer = router_snapshot_match;
+
     /// A fresh cache of so many slots, 0 counting as 1, over areas of 3 numbers, 256 bytes and 16 targets a slot. Or 17.
     pub fn cache_new(
         capacity: usize, heads: &[u64], keys: &[u8], kept: &[u32],
