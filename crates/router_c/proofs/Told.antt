@@ -13,7 +13,7 @@ use Rattle.sublist_snapshot.specs.declared.Snapshot.{Snapshot}
 use Rattle.sublist_snapshot.specs.declared.MadeSnapshot.{MadeSnapshot}
 use Rattle.sublist_snapshot.specs.declared.Stored.{Stored as StoreReturned}
 use Rattle.sublist_snapshot.specs.Snapshot.{Made, Stored}
-use Rattle.sublist_snapshot.specs.Answers.{madeAnswer, storeAnswer, made, left as leftStored}
+use Rattle.sublist_snapshot.specs.Answers.{madeAnswer, storeAnswer, made, leftStored}
 use Rattle.resolve_cache.specs.declared.ResolveCache.{ResolveCache}
 use Rattle.resolve_cache.specs.declared.Resolved.{Resolved as Returned}
 use Rattle.resolve_cache.specs.Area.{Area}
