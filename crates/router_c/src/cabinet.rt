@@ -118,7 +118,7 @@ pub extern "C" fn router_cache_clear(cache: CCache) -> CCache
 }
 
 // The targets of a subject, from the cache or by a walk of the standing table.
-// The answer: where the list lies (0 in `kept`, 1 in `out`), its first place and its length, or why not; then the cache.
+// The answer: where the list lies (0 in `kept`, 1 in `out`), its first place and length, or why not; then the cache.
 #[no_mangle]
 pub extern "C" fn router_resolve(
     cache: CCache,

@@ -110,7 +110,7 @@ pub struct CResolved {
     pub walks: u64,
 }
 
-// A verdict: 0, its kind (0 no target, 1 one, 2 several), the target or the number of targets, the peak, the generation.
+// A verdict: 0, its kind (0 no target, 1 one, 2 several), the target or how many targets, the peak, the generation.
 // Or a refusal with its values, then zeros.
 #[repr(C)]
 pub struct CVerdict {
