@@ -8,21 +8,20 @@ use mathlib.Core.Option.{Option, none, some}
 use lib.Dec.{eqb, ltb}
 use lib.ListN.{length, replicate}
 use borrow.Author.Tests.{ltb-false}
-use Rattle.subject.specs.Choice.{pick}
-use Rattle.subject.specs.Text.{tokens, isTail}
-use Rattle.subject.specs.Utf8.{firstBad}
-use Rattle.subject.specs.Fnv.{fnv}
-use Rattle.subject.specs.Answers.{Answer, answer, unless}
-use Rattle.subject.specs.Grammar.{firstOf, badToken, tailAt, check, notUtf8, grammar}
+use Rattle.subject_rules.specs.Choice.{pick}
+use Rattle.subject_rules.specs.Text.{tokens, isTail}
+use Rattle.subject_rules.specs.Utf8.{firstBad}
+use Rattle.subject_rules.specs.Answers.{Answer, answer, unless}
+use Rattle.subject_rules.specs.Grammar.{firstOf, badToken, tailAt, check, notUtf8, grammar}
 use Rattle.sublist_tree.specs.Lists.{All}
 use Rattle.sublist_tree.specs.Tree.{worst}
-use Rattle.sublist_tree.specs.Table.{TableEntry, rootOf, Accepted}
-use Rattle.sublist_area.specs.Growing.{planted}
+use Rattle.sublist_tree.specs.Table.{TableEntry, Accepted}
+use Rattle.sublist_area_rules.specs.Growing.{planted}
 use Rattle.sublist_entries.specs.declared.Entry.{Entry}
 use Rattle.sublist_entries.specs.Entries.{textOf, readFrom}
-use Rattle.sublist.specs.Building.{invalid, badEntry, badEntries, needed, worstOf as worstIn, buildSays}
-use Rattle.sublist.specs.Passes.{linesIn, settled, laidAt, laid, filled}
-use Rattle.sublist.specs.Leaving.{buildLeaves}
+use Rattle.sublist_rules.specs.Building.{invalid, badEntry, badEntries, needed, worstOf as worstIn, buildSays}
+use Rattle.sublist_rules.specs.Passes.{linesIn, settled, laidAt, laid, filled}
+use Rattle.sublist_rules.specs.Leaving.{buildLeaves}
 use Rattle.sublist_snapshot.specs.Snapshot.{Table, emptyTable}
 use Rattle.binding.specs.Demand.{worstOf, holding, entriesRefused, BuildRight}
 use Rattle.binding.specs.Built.{BuiltFrom}

@@ -3,35 +3,32 @@
 --   hashed-apart    a test of tokens that no two share a hash
 --   met-premises    the premises hold of these calls
 --   met-calls       so each of them is answered as demanded
-use Prim.Native.Nat.{ℕ, _<_, _^_}
+use Prim.Native.Nat.{ℕ}
 use native.Mathlib.Omega.{arith}
-use mathlib.Core.Path.{_≡_, refl, _∙_, ap}
+use mathlib.Core.Path.{_≡_, refl}
 use mathlib.Core.Bool.{Bool, true, false, not}
 use mathlib.Core.List.{List, [], _∷_}
 use lib.Dec.{eqb}
 use lib.ListN.{replicate}
 use borrow.Author.Tests.{eqb-false}
-use Rattle.subject.specs.Choice.{and, or}
-use Rattle.subject.specs.Text.{same}
-use Rattle.subject.specs.Utf8.{sequence, firstBad}
-use Rattle.subject.specs.Fnv.{fnv, fnvFrom}
-use Rattle.subject.specs.Grammar.{grammar}
-use Rattle.subject.specs.Answers.{answer}
+use Rattle.subject_rules.specs.Choice.{and, or}
+use Rattle.subject_rules.specs.Text.{same}
+use Rattle.subject_rules.specs.Utf8.{sequence, firstBad}
+use Rattle.subject_rules.specs.Fnv.{fnv, fnvFrom}
+use Rattle.subject_rules.specs.Grammar.{grammar}
 use Rattle.sublist_tree.specs.Lists.{All}
 use Rattle.sublist_tree.specs.Tree.{worst}
-use Rattle.sublist_tree.specs.Table.{TableEntry}
-use Rattle.sublist_tree.specs.Timetable.{bytes, entry}
 use Rattle.sublist_tree.proofs.Bytes.{same-sound}
-use Rattle.sublist_area.specs.Words.{seek, literalChild, starChild}
-use Rattle.sublist_area.specs.Growing.{added, placed, childOrNew, onward, grown, planted}
-use Rattle.sublist.specs.Building.{needed, worstOf, buildSays}
-use Rattle.sublist.specs.Passes.{counted, joined, lineIn, linesIn, told, settled, laidAt, laid, filledBy, filled}
-use Rattle.sublist.specs.Leaving.{buildLeaves}
-use Rattle.sublist_snapshot.specs.Snapshot.{Table, make}
-use Rattle.resolve_cache.specs.Cache.{withCapacity}
-use Rattle.binding.specs.Calls.{Call, store, clearing, asking, resolving, askingHome, resolvingHome}
+use Rattle.sublist_area_rules.specs.Words.{seek, literalChild, starChild}
+use Rattle.sublist_area_rules.specs.Growing.{added, placed, childOrNew, onward, grown, planted}
+use Rattle.sublist_rules.specs.Building.{needed, worstOf, buildSays}
+use Rattle.sublist_rules.specs.Passes.{counted, joined, lineIn, linesIn, told, settled, laidAt, laid, filledBy, filled}
+use Rattle.sublist_rules.specs.Leaving.{buildLeaves}
+use Rattle.sublist_snapshot.specs.Snapshot.{make}
+use Rattle.resolve_cache_rules.specs.Cache.{withCapacity}
+use Rattle.binding.specs.Calls.{store}
 use Rattle.binding.specs.Built.{BuiltFrom}
-use Rattle.binding.specs.Demand.{inPlay, HashedApart, Premises, Opened, EachRight, start, Met}
+use Rattle.binding.specs.Demand.{inPlay, HashedApart, Premises, Opened, EachRight, start}
 use Rattle.binding.specs.Timetable.{texts, listFrom, tableOf, wordsFor, cabinet, fiveEntries, otherEntries, everyCall}
 use Rattle.binding.proofs.Interleaving.{interleaving}
 

@@ -10,26 +10,26 @@ use lib.Dec.{eqb, ltb}
 use lib.ListN.{length, drop, getD}
 use lib.Seq.{take-append-seam}
 use borrow.Author.Tests.{ltb-true, ltb-false, ne-eqb}
-use Rattle.subject.specs.Choice.{pick}
-use Rattle.subject.specs.Text.{tokens}
-use Rattle.subject.specs.Fnv.{fnv}
-use Rattle.subject.specs.Answers.{Answer, answer}
-use Rattle.subject.specs.Grammar.{grammar}
+use Rattle.subject_rules.specs.Choice.{pick}
+use Rattle.subject_rules.specs.Text.{tokens}
+use Rattle.subject_rules.specs.Fnv.{fnv}
+use Rattle.subject_rules.specs.Answers.{Answer, answer}
+use Rattle.subject_rules.specs.Grammar.{grammar}
 use Rattle.sublist_tree.specs.Lists.{concat, All}
 use Rattle.sublist_tree.specs.Tree.{walk, peak}
 use Rattle.sublist_tree.specs.Table.{TableEntry, rootOf, Accepted, literals}
 use Rattle.sublist_tree.proofs.Hash.{hash-entries, hash-peak, hash-fork}
-use Rattle.sublist_walk.specs.Walk.{found}
-use Rattle.sublist_walk.specs.Matching.{over, Outcome, outcome, ifSubject}
-use Rattle.sublist.specs.Building.{needed, worstOf as worstIn, buildSays}
+use Rattle.sublist_walk_rules.specs.Walk.{found}
+use Rattle.sublist_walk_rules.specs.Matching.{over, Outcome, outcome, ifSubject}
+use Rattle.sublist_rules.specs.Building.{needed, worstOf as worstIn, buildSays}
 use Rattle.sublist_snapshot.specs.declared.Snapshot.{Snapshot}
 use Rattle.sublist_snapshot.specs.Snapshot.{wrap, Table, lengthOf, copied, first, snapshotNumbers, Made, make, Stored, matchIn, walkOf}
 use Rattle.sublist_snapshot.proofs.Copies.{HoldsIn, copied-length, copied-holds, make-full, make-fits, store-full, store-fits}
 use Rattle.sublist_snapshot.proofs.Standing.{holds-stands, holds-walk, holds-match}
-use Rattle.resolve_cache.specs.Cache.{clear, Handed, turnedBack, gives, handed, withCapacity}
-use Rattle.resolve_cache.proofs.Faithful.{Faithful, unlessText, fresh-faithful, stored-faithful, clear-faithful, resolve-right}
-use Rattle.binding.specs.Verdict.{singleHome, judgeMatch, judgeHanded, judgeResolved, resolveSingleHome, resolveSingleHomeCached}
-use Rattle.binding.specs.Calls.{Call, store, clearing, asking, resolving, askingHome, resolvingHome, Reply, refused, storing, cleared, matched, resolved, home, Kept, Cabinet, replaced, stamped, shown, resolvedAs, homeAs, storeTo, resolveIn, homeIn, reply, after}
+use Rattle.resolve_cache_rules.specs.Cache.{clear, Handed, turnedBack, gives, handed, withCapacity}
+use Rattle.resolve_cache_rules.proofs.Faithful.{Faithful, unlessText, fresh-faithful, stored-faithful, clear-faithful, resolve-right}
+use Rattle.binding.specs.Verdict.{singleHome, judgeMatch, judgeHanded, resolveSingleHome, resolveSingleHomeCached}
+use Rattle.binding.specs.Calls.{Call, store, clearing, asking, resolving, askingHome, resolvingHome, Reply, refused, storing, cleared, matched, resolved, home, Kept, Cabinet, replaced, stamped, shown, resolvedAs, homeAs, storeTo, resolveIn, reply, after}
 use Rattle.binding.specs.Built.{BuiltFrom}
 use Rattle.binding.specs.Demand.{due, verdictOn, peakDue, worstOf, Standing, start, standingAfter, textFirst, Right, EachRight, Happened, AllRight, SnapshotRight, Opened, Lent, isStore, storesIn, tokensOf, tokensIn, inPlay, HashedApart, Premises, Met}
 use Rattle.binding.proofs.Builds.{built-accepts, built-bound, builds-right}

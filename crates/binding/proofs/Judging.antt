@@ -1,29 +1,29 @@
 -- The verdict by the length of a list, and what a match, a resolve and their refusals make of it.
 use Prim.Native.Nat.{ℕ, zero, suc, _≤_}
 use native.Mathlib.Omega.{arith}
-use mathlib.Core.Path.{_≡_, refl, sym, _∙_, ap}
+use mathlib.Core.Path.{_≡_, refl}
 use mathlib.Core.List.{List, [], _∷_}
 use lib.ListN.{length, take, getD}
 use Rattle.subject.specs.declared.SubjectError.{SubjectError}
 use Rattle.subject.specs.declared.Parsed.the-variants.{Refused}
-use Rattle.subject.specs.Answers.{Answer, answer, refusal, whenAccepted}
+use Rattle.subject_rules.specs.Answers.{Answer, answer, whenAccepted}
+use Rattle.subject.specs.Answers.{refusal}
 use Rattle.subject.proofs.Refusals.{refused-stands}
-use Rattle.sublist_walk.specs.Matching.{Outcome, outcome}
+use Rattle.sublist_walk_rules.specs.Matching.{outcome}
 use Rattle.sublist_snapshot.specs.declared.Snapshot.{Snapshot}
-use Rattle.sublist_snapshot.specs.declared.SnapshotMatch.{SnapshotMatch}
 use Rattle.sublist_snapshot.specs.Snapshot.{matchIn}
-use Rattle.sublist_snapshot.specs.Answers.{snapshotAnswer}
-use Rattle.resolve_cache.specs.declared.ResolveCache.{ResolveCache}
+use Rattle.resolve_cache_rules.specs.declared.ResolveCache.{ResolveCache}
 use Rattle.resolve_cache.specs.declared.Resolved.{Resolved as Returned}
-use Rattle.resolve_cache.specs.Area.{Area}
-use Rattle.resolve_cache.specs.Cache.{fresh, Handed, gives, handed, resolve}
-use Rattle.resolve_cache.specs.Answers.{resolveAnswer, lent, left, listOf}
+use Rattle.resolve_cache_rules.specs.Area.{Area}
+use Rattle.resolve_cache_rules.specs.Cache.{fresh, Handed, gives, handed, resolve}
+use Rattle.resolve_cache.specs.Answers.{resolveAnswer, left, listOf}
+use Rattle.resolve_cache_rules.specs.Answers.{lent}
 use Rattle.resolve_cache.proofs.Keeping.{walk-lists}
 use Rattle.binding.specs.declared.Resolution.{Resolution}
 use Rattle.binding.specs.declared.Resolution.the-variants.{Routed, NoStream, Ambiguous}
 use Rattle.binding.specs.declared.CachedSingleHome.{CachedSingleHome}
-use Rattle.binding.specs.Verdict.{singleHome, Judged, turnedDown, judged, judgeMatch, judgeHanded, judgeResolved, Homed, resolveSingleHome, CachedHomed, resolveSingleHomeCached}
-use Rattle.binding.specs.Answers.{cachedAnswer, cachedHomed}
+use Rattle.binding.specs.Verdict.{singleHome, turnedDown, judged, judgeMatch, judgeHanded, Homed, resolveSingleHome, CachedHomed, resolveSingleHomeCached}
+use Rattle.binding.specs.Answers.{cachedAnswer}
 
 pub home-none : (l : List ℕ) → length l ≡ 0 → NoStream ≡ singleHome l
 home-none [] e = refl

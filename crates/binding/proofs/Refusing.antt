@@ -3,7 +3,7 @@
 --   refused-changes-nothing    the whole of it
 use Prim.Native.Nat.{ℕ, zero, suc}
 use native.Mathlib.Omega.{arith}
-use mathlib.Core.Path.{_≡_, refl, sym, _∙_, ap, subst}
+use mathlib.Core.Path.{_≡_, refl, sym, _∙_, ap}
 use mathlib.Core.Logic.{_⊎_, inl, inr}
 use mathlib.Core.Bool.{Bool, true, false}
 use mathlib.Core.List.{List, [], _∷_, _++_, map}
@@ -12,29 +12,29 @@ use lib.Dec.{eqb, ltb}
 use lib.ListN.{length, take, drop, getD}
 use lib.Seq.{take-append-seam}
 use borrow.Author.Tests.{eqb-true}
-use Rattle.subject.specs.Choice.{pick}
-use Rattle.subject.specs.Text.{tokens}
-use Rattle.subject.specs.Fnv.{fnv}
-use Rattle.subject.specs.Answers.{Answer, answer}
-use Rattle.subject.specs.Grammar.{grammar}
-use Rattle.sublist_walk.specs.Walk.{Walked, found, failed, walkOver}
-use Rattle.sublist_walk.specs.Matching.{over, countsFit, Outcome, outcome, written, ifSubject, matchTable}
-use Rattle.sublist_walk.proofs.Outputs.{Leaves as MatchLeaves}
+use Rattle.subject_rules.specs.Choice.{pick}
+use Rattle.subject_rules.specs.Text.{tokens}
+use Rattle.subject_rules.specs.Fnv.{fnv}
+use Rattle.subject_rules.specs.Answers.{Answer, answer}
+use Rattle.subject_rules.specs.Grammar.{grammar}
+use Rattle.sublist_walk_rules.specs.Walk.{Walked, found, failed, walkOver}
+use Rattle.sublist_walk_rules.specs.Matching.{over, countsFit, Outcome, outcome, written, ifSubject, matchTable}
+use Rattle.sublist_walk_rules.proofs.Outputs.{Leaves as MatchLeaves}
 use Rattle.sublist_entries.specs.declared.Entry.{Entry}
 use Rattle.sublist_entries.specs.declared.ListState.{ListState}
-use Rattle.sublist_entries.specs.Inserting.{insertSays, insertInto}
-use Rattle.sublist.specs.Leaving.{buildInto}
-use Rattle.sublist.proofs.Builds.{refused-targets}
+use Rattle.sublist_entries.specs.Inserting.{insertInto}
+use Rattle.sublist_rules.specs.Leaving.{buildInto}
+use Rattle.sublist_rules.proofs.Builds.{refused-targets}
 use Rattle.sublist_snapshot.specs.declared.Snapshot.{Snapshot}
-use Rattle.sublist_snapshot.specs.Snapshot.{Table, refusedTable, Made, madeBy, make, Stored, storedBy, storeIn, nodesIn, targetsIn, withGeneration, matchIn}
-use Rattle.resolve_cache.specs.declared.ResolveCache.{ResolveCache}
-use Rattle.resolve_cache.specs.Area.{Area}
-use Rattle.resolve_cache.specs.Cache.{Handed, turnedBack, gives, handed, Resolved, resolve}
-use Rattle.resolve_cache.proofs.Outputs.{Leaves as ResolveLeaves, resolve-leaves}
+use Rattle.sublist_snapshot.specs.Snapshot.{Table, refusedTable, madeBy, make, storedBy, storeIn, nodesIn, targetsIn, withGeneration, matchIn}
+use Rattle.resolve_cache_rules.specs.declared.ResolveCache.{ResolveCache}
+use Rattle.resolve_cache_rules.specs.Area.{Area}
+use Rattle.resolve_cache_rules.specs.Cache.{Handed, gives, handed, Resolved}
+use Rattle.resolve_cache_rules.proofs.Outputs.{Leaves as ResolveLeaves, resolve-leaves}
 use Rattle.binding.specs.declared.Resolution.{Resolution}
-use Rattle.binding.specs.Verdict.{singleHome, Judged, turnedDown, judged, judgeMatch, judgeHanded, outputOf, resolveSingleHome, resolveSingleHomeCached}
-use Rattle.binding.specs.Calls.{Call, store, clearing, asking, resolving, askingHome, resolvingHome, Reply, refused, storing, cleared, matched, resolved, home, Kept, Cabinet, replaced, stamped, shown, resolvedAs, homeAs, resolveIn, reply, after}
-use Rattle.binding.specs.Refusing.{outputLeft, Unmoved, RefusedStays, ListWritten, Demand1}
+use Rattle.binding.specs.Verdict.{judgeMatch, judgeHanded, outputOf, resolveSingleHome, resolveSingleHomeCached}
+use Rattle.binding.specs.Calls.{Call, store, clearing, asking, resolving, askingHome, resolvingHome, Reply, refused, matched, resolved, Cabinet, replaced, stamped, shown, resolvedAs, homeAs, resolveIn, after}
+use Rattle.binding.specs.Refusing.{Unmoved, RefusedStays, ListWritten, Demand1}
 
 -- ---- the snapshot
 

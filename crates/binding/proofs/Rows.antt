@@ -1,24 +1,24 @@
 -- The definitions give each row of the timetable.
 use mathlib.Core.Path.{refl}
 use mathlib.Core.List.{List, [], _∷_, _++_, map}
-use Rattle.subject.specs.Utf8.{sequence, firstBad}
-use Rattle.subject.specs.Fnv.{fnv, fnvFrom}
-use Rattle.subject.specs.Grammar.{grammar}
+use Rattle.subject_rules.specs.Utf8.{sequence, firstBad}
+use Rattle.subject_rules.specs.Fnv.{fnv, fnvFrom}
+use Rattle.subject_rules.specs.Grammar.{grammar}
 use Rattle.sublist_tree.specs.Lists.{All}
 use Rattle.sublist_tree.specs.Tree.{worst}
-use Rattle.sublist_tree.specs.Timetable.{Row as TextRow, holds as holdsText, timetable as textTimetable}
+use Rattle.sublist_tree.specs.Timetable.{holds as holdsText, timetable as textTimetable}
 use Rattle.sublist_tree.proofs.Rows.{timetable-holds as text-rows}
-use Rattle.sublist_area.specs.Words.{seek, literalChild, starChild}
-use Rattle.sublist_area.specs.Growing.{added, placed, childOrNew, onward, grown, planted}
-use Rattle.sublist_walk.specs.Walk.{collect, push, visit, visits, arrived, onToken, onTokens, exact, listed, ended, walkOver}
-use Rattle.sublist_walk.specs.Matching.{matchTable}
-use Rattle.sublist.specs.Building.{needed, worstOf, buildSays}
-use Rattle.sublist.specs.Passes.{counted, joined, lineIn, linesIn, told, settled, laidAt, laid, filledBy, filled}
-use Rattle.sublist.specs.Leaving.{buildLeaves}
+use Rattle.sublist_area_rules.specs.Words.{seek, literalChild, starChild}
+use Rattle.sublist_area_rules.specs.Growing.{added, placed, childOrNew, onward, grown, planted}
+use Rattle.sublist_walk_rules.specs.Walk.{collect, push, visit, visits, arrived, onToken, onTokens, exact, listed, ended, walkOver}
+use Rattle.sublist_walk_rules.specs.Matching.{matchTable}
+use Rattle.sublist_rules.specs.Building.{needed, worstOf, buildSays}
+use Rattle.sublist_rules.specs.Passes.{counted, joined, lineIn, linesIn, told, settled, laidAt, laid, filledBy, filled}
+use Rattle.sublist_rules.specs.Leaving.{buildLeaves}
 use Rattle.sublist_snapshot.specs.Snapshot.{make, storeIn, matchIn}
-use Rattle.resolve_cache.specs.Cache.{withCapacity, clear, resolve}
-use Rattle.resolve_cache.specs.Rows.{Row as CacheRow, holds as holdsLent, rows as cacheRows}
-use Rattle.resolve_cache.proofs.Rows.{rows-hold as cache-rows}
+use Rattle.resolve_cache_rules.specs.Cache.{withCapacity, clear, resolve}
+use Rattle.resolve_cache_rules.specs.Rows.{Row as CacheRow, holds as holdsLent, rows as cacheRows}
+use Rattle.resolve_cache_rules.proofs.Rows.{rows-hold as cache-rows}
 use Rattle.binding.specs.Verdict.{resolveSingleHome, resolveSingleHomeCached}
 use Rattle.binding.specs.Timetable.{Row, text, lent, holds, callRows, timetable}
 

@@ -1,16 +1,15 @@
 -- An accepted build's areas hold the tree of its entries.
-use Prim.Native.Nat.{ℕ, _/_}
-use mathlib.Core.Path.{_≡_, refl, sym, ap, _∙_, subst}
+use Prim.Native.Nat.{_/_}
+use mathlib.Core.Path.{_≡_, sym, ap, subst}
 use mathlib.Core.List.{List, [], _∷_}
 use lib.ListN.{length, getD}
-use Rattle.subject.specs.Fnv.{fnv}
+use Rattle.subject_rules.specs.Fnv.{fnv}
 use Rattle.sublist_tree.specs.Table.{TableEntry, rootOf}
-use Rattle.sublist_walk.specs.Holds.{Holds}
+use Rattle.sublist_walk_rules.specs.Holds.{Holds}
 use Rattle.sublist_entries.specs.Entries.{readFrom}
-use Rattle.sublist.specs.Building.{needed}
-use Rattle.sublist.specs.Passes.{Filling, filling}
-use Rattle.sublist.specs.Passes.{nodeWordsIn, targetWordsIn}
-use Rattle.sublist.proofs.Builds.{taken, build-stands}
+use Rattle.sublist_rules.specs.Building.{needed}
+use Rattle.sublist_rules.specs.Passes.{nodeWordsIn, targetWordsIn}
+use Rattle.sublist_rules.proofs.Builds.{taken, build-stands}
 use Rattle.sublist_snapshot.specs.Snapshot.{Table}
 use Rattle.binding.specs.Built.{BuiltFrom}
 

@@ -7,12 +7,12 @@ use mathlib.Core.List.{List, [], _∷_, _++_, List·Memᴰ, List·Memᴰ·head, 
 use mathlib.Core.Option.{Option, none, some}
 use lib.Dec.{eqb, ltb}
 use lib.ListN.{length}
-use Rattle.subject.specs.Choice.{pick, or}
-use Rattle.subject.specs.Text.{tokens, isStar, isTail}
-use Rattle.subject.specs.Utf8.{firstBad}
-use Rattle.subject.specs.Fnv.{fnv}
-use Rattle.subject.specs.Answers.{Answer, answer, unless}
-use Rattle.subject.specs.Grammar.{firstOf, badChars, badToken, tailAt, check, notUtf8, grammar}
+use Rattle.subject_rules.specs.Choice.{pick, or}
+use Rattle.subject_rules.specs.Text.{tokens, isStar, isTail}
+use Rattle.subject_rules.specs.Utf8.{firstBad}
+use Rattle.subject_rules.specs.Fnv.{fnv}
+use Rattle.subject_rules.specs.Answers.{Answer, answer, unless}
+use Rattle.subject_rules.specs.Grammar.{firstOf, badChars, badToken, tailAt, check, notUtf8, grammar}
 use Rattle.sublist_tree.specs.Lists.{All}
 use Rattle.sublist_tree.specs.Table.{TableEntry, literals, NoClash}
 use Rattle.sublist_tree.proofs.Bytes.{All-map}

@@ -2,8 +2,9 @@
 -- as their definitions have it.
 use Prim.Native.Nat.{ℕ}
 use mathlib.Core.List.{List, [], _∷_}
-use Rattle.subject.specs.Answers.{Answer, answer, refusal}
-use Rattle.resolve_cache.specs.Area.{Area}
+use Rattle.subject_rules.specs.Answers.{answer}
+use Rattle.subject.specs.Answers.{refusal}
+use Rattle.resolve_cache_rules.specs.Area.{Area}
 use Rattle.binding.specs.declared.SingleHome.{SingleHome}
 use Rattle.binding.specs.declared.SingleHome.the-variants.{Resolved, Invalid, Damaged, OutShort}
 use Rattle.binding.specs.declared.CachedSingleHome.{CachedSingleHome}

@@ -3,13 +3,13 @@ use Prim.Native.Nat.{ℕ, _/_}
 use mathlib.Core.Path.{_≡_}
 use mathlib.Core.List.{List, [], _∷_}
 use lib.ListN.{length}
-use Rattle.subject.specs.Answers.{answer}
+use Rattle.subject_rules.specs.Answers.{answer}
 use Rattle.sublist_tree.specs.Table.{TableEntry}
 use Rattle.sublist_entries.specs.declared.Entry.{Entry}
 use Rattle.sublist_entries.specs.Entries.{readFrom}
-use Rattle.sublist.specs.Building.{buildSays}
-use Rattle.sublist.specs.Passes.{filling}
-use Rattle.sublist.specs.Leaving.{buildLeaves}
+use Rattle.sublist_rules.specs.Building.{buildSays}
+use Rattle.sublist_rules.specs.Passes.{filling}
+use Rattle.sublist_rules.specs.Leaving.{buildLeaves}
 use Rattle.sublist_snapshot.specs.Snapshot.{Table}
 
 -- an accepted build read these entries and left this table

@@ -3,15 +3,15 @@ use Prim.Native.Nat.{ℕ, zero, suc}
 use mathlib.Core.List.{List}
 use lib.Dec.{eqb}
 use lib.ListN.{take, getD}
-use Rattle.subject.specs.Choice.{pick}
-use Rattle.subject.specs.Answers.{Answer, answer}
+use Rattle.subject_rules.specs.Choice.{pick}
+use Rattle.subject_rules.specs.Answers.{Answer, answer}
 use Rattle.sublist_tree.specs.Table.{TableEntry}
-use Rattle.sublist_walk.specs.Matching.{Outcome, outcome}
+use Rattle.sublist_walk_rules.specs.Matching.{Outcome, outcome}
 use Rattle.sublist_snapshot.specs.declared.Snapshot.{Snapshot}
 use Rattle.sublist_snapshot.specs.Snapshot.{Table, Stored, storeIn, matchIn}
-use Rattle.resolve_cache.specs.declared.ResolveCache.{ResolveCache}
-use Rattle.resolve_cache.specs.Area.{Area}
-use Rattle.resolve_cache.specs.Cache.{clear, Handed, turnedBack, gives, handed, Resolved, resolve}
+use Rattle.resolve_cache_rules.specs.declared.ResolveCache.{ResolveCache}
+use Rattle.resolve_cache_rules.specs.Area.{Area}
+use Rattle.resolve_cache_rules.specs.Cache.{clear, Handed, turnedBack, gives, handed, Resolved, resolve}
 use Rattle.binding.specs.declared.Resolution.{Resolution}
 use Rattle.binding.specs.Verdict.{singleHome, Judged, turnedDown, judged, resolveSingleHome, CachedHomed}
 use Rattle.binding.specs.Verdict.{resolveSingleHomeCached}

@@ -6,11 +6,11 @@ use mathlib.Core.List.{List, [], _∷_, _++_, map}
 use mathlib.Core.Option.{Option, none, some}
 use lib.Dec.{eqb, ltb}
 use lib.ListN.{length, take, drop, getD}
-use Rattle.subject.specs.Choice.{pick, or}
-use Rattle.subject.specs.Text.{same, tokens}
-use Rattle.subject.specs.Fnv.{fnv}
-use Rattle.subject.specs.Answers.{Answer, answer, unless}
-use Rattle.subject.specs.Grammar.{firstOf, grammar}
+use Rattle.subject_rules.specs.Choice.{pick, or}
+use Rattle.subject_rules.specs.Text.{same, tokens}
+use Rattle.subject_rules.specs.Fnv.{fnv}
+use Rattle.subject_rules.specs.Answers.{Answer, answer, unless}
+use Rattle.subject_rules.specs.Grammar.{firstOf, grammar}
 use Rattle.sublist_tree.specs.Lists.{concat, sum, sort, All}
 use Rattle.sublist_tree.specs.Tree.{targetOf, worst}
 use Rattle.sublist_tree.specs.Due.{precedes}
@@ -18,10 +18,10 @@ use Rattle.sublist_tree.specs.Nodes.{nodes, peakOf}
 use Rattle.sublist_tree.specs.Table.{TableEntry, rootOf, matchingEntries, literals}
 use Rattle.sublist_entries.specs.declared.Entry.{Entry}
 use Rattle.sublist_entries.specs.Entries.{readFrom}
-use Rattle.sublist.specs.Building.{buildSays}
+use Rattle.sublist_rules.specs.Building.{buildSays}
 use Rattle.sublist_snapshot.specs.Snapshot.{Table, snapshotNumbers, make}
-use Rattle.resolve_cache.specs.Area.{Area}
-use Rattle.resolve_cache.specs.Cache.{cacheNumbers, withCapacity, newCache}
+use Rattle.resolve_cache_rules.specs.Area.{Area}
+use Rattle.resolve_cache_rules.specs.Cache.{cacheNumbers, withCapacity, newCache}
 use Rattle.binding.specs.declared.Resolution.{Resolution}
 use Rattle.binding.specs.declared.Resolution.the-variants.{Routed, NoStream, Ambiguous}
 use Rattle.binding.specs.Built.{BuiltFrom}

@@ -7,16 +7,16 @@ use mathlib.Core.Path.{_≡_}
 use mathlib.Core.Logic.{_⊎_}
 use mathlib.Core.List.{List, [], _++_}
 use lib.ListN.{length, drop}
-use Rattle.subject.specs.Answers.{Answer, answer}
+use Rattle.subject_rules.specs.Answers.{Answer, answer}
 use Rattle.sublist_entries.specs.declared.Entry.{Entry}
 use Rattle.sublist_entries.specs.declared.ListState.{ListState}
 use Rattle.sublist_entries.specs.Inserting.{insertInto}
-use Rattle.sublist.specs.Passes.{targetWordsIn}
-use Rattle.sublist.specs.Leaving.{buildInto}
+use Rattle.sublist_rules.specs.Passes.{targetWordsIn}
+use Rattle.sublist_rules.specs.Leaving.{buildInto}
 use Rattle.sublist_snapshot.specs.Snapshot.{Table, make, matchIn}
 use Rattle.binding.specs.declared.Resolution.{Resolution}
 use Rattle.binding.specs.Verdict.{outputOf, resolveSingleHome}
-use Rattle.binding.specs.Calls.{Call, store, clearing, asking, resolving, askingHome, resolvingHome, Reply}
+use Rattle.binding.specs.Calls.{Call, store, clearing, asking, resolving, askingHome, resolvingHome}
 use Rattle.binding.specs.Calls.{refused, matched, resolved, Cabinet, resolveIn, homeIn, reply, after}
 
 -- the output that a call was lent, and as it left it; a store and a clear are lent none

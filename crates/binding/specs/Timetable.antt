@@ -6,18 +6,18 @@ use Prim.Native.String.{String}
 use mathlib.Core.Path.{_≡_}
 use mathlib.Core.List.{List, [], _∷_, _++_, map}
 use lib.ListN.{length, replicate}
-use Rattle.subject.specs.Answers.{Answer, answer}
+use Rattle.subject_rules.specs.Answers.{Answer, answer}
 use Rattle.sublist_tree.specs.Lists.{concat, All}
 use Rattle.sublist_tree.specs.Table.{TableEntry}
 use Rattle.sublist_tree.specs.Timetable.{bytes, entry, Row as TextRow, holds as holdsText, timetable as textTimetable}
 use Rattle.sublist_entries.specs.declared.Entry.{Entry}
-use Rattle.sublist.specs.Building.{buildSays}
-use Rattle.sublist.specs.Passes.{Filling, filling}
-use Rattle.sublist.specs.Leaving.{buildLeaves}
+use Rattle.sublist_rules.specs.Building.{buildSays}
+use Rattle.sublist_rules.specs.Passes.{Filling, filling}
+use Rattle.sublist_rules.specs.Leaving.{buildLeaves}
 use Rattle.sublist_snapshot.specs.Snapshot.{Table, lengthOf, first, copied}
-use Rattle.resolve_cache.specs.Area.{Area, keyAt}
-use Rattle.resolve_cache.specs.Cache.{fresh}
-use Rattle.resolve_cache.specs.Rows.{Row as CacheRow, holds as holdsLent, rows as cacheRows}
+use Rattle.resolve_cache_rules.specs.Area.{Area, keyAt}
+use Rattle.resolve_cache_rules.specs.Cache.{fresh}
+use Rattle.resolve_cache_rules.specs.Rows.{Row as CacheRow, holds as holdsLent, rows as cacheRows}
 use Rattle.binding.specs.declared.Resolution.{Resolution}
 use Rattle.binding.specs.declared.Resolution.the-variants.{Routed, NoStream, Ambiguous}
 use Rattle.binding.specs.Calls.{Call, store, clearing, asking, resolving, askingHome, resolvingHome, Reply}

@@ -3,13 +3,13 @@ use Prim.Native.Nat.{ℕ, zero, suc}
 use mathlib.Core.Bool.{Bool, true, false}
 use mathlib.Core.List.{List, [], _∷_}
 use lib.ListN.{length, take, getD}
-use Rattle.subject.specs.Answers.{Answer, answer}
-use Rattle.sublist_walk.specs.Matching.{Outcome, outcome}
+use Rattle.subject_rules.specs.Answers.{Answer, answer}
+use Rattle.sublist_walk_rules.specs.Matching.{Outcome, outcome}
 use Rattle.sublist_snapshot.specs.declared.Snapshot.{Snapshot}
 use Rattle.sublist_snapshot.specs.Snapshot.{matchIn}
-use Rattle.resolve_cache.specs.declared.ResolveCache.{ResolveCache}
-use Rattle.resolve_cache.specs.Area.{Area}
-use Rattle.resolve_cache.specs.Cache.{Handed, turnedBack, gives, handed, Resolved, resolve}
+use Rattle.resolve_cache_rules.specs.declared.ResolveCache.{ResolveCache}
+use Rattle.resolve_cache_rules.specs.Area.{Area}
+use Rattle.resolve_cache_rules.specs.Cache.{Handed, turnedBack, gives, handed, Resolved, resolve}
 use Rattle.binding.specs.declared.Resolution.{Resolution}
 use Rattle.binding.specs.declared.Resolution.the-variants.{Routed, NoStream, Ambiguous}
 use Rattle.binding.specs.declared.RoutedTarget.{RoutedTarget}

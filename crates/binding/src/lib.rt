@@ -1,12 +1,13 @@
 // The verdict on the targets found for a subject. A port of IronBus's binding.rs.
 ghost use mathlib.Core.Path.{_≡_};
-ghost use Rattle.resolve_cache.specs.Cache.{handed};
-ghost use Rattle.resolve_cache.specs.Answers.{resolveAnswer, lent};
+ghost use Rattle.resolve_cache_rules.specs.Cache.{handed};
+ghost use Rattle.resolve_cache.specs.Answers.{resolveAnswer};
+ghost use Rattle.resolve_cache_rules.specs.Answers.{lent};
 ghost use Rattle.binding.specs.Verdict.{singleHome, routed, isRouted, judgeHanded, resolveSingleHome};
 ghost use Rattle.binding.specs.Verdict.{resolveSingleHomeCached};
 ghost use Rattle.binding.specs.Answers.{cachedAnswer, homed, cachedHomed};
 use resolve_cache::ResolveAnswer;
-use resolve_cache::ResolveCache;
+use resolve_cache_rules::ResolveCache;
 use subject::SubjectError;
 use sublist_snapshot::Generation;
 use sublist_snapshot::Snapshot;
@@ -152,7 +153,7 @@ pub fn resolve_single_home_cached(
         ≡ resolveSingleHomeCached cache (lent (now (heads .entry)) (now (keys .entry)) (now (kept .entry)))
         snapshot (now (area .entry)) (now (subject .entry)) (now (out .entry)) ⌝ }
 {
-    let resolved = cache.resolve(heads, keys, kept, snapshot, area, subject, out);
+    let resolved = resolve_cache::resolve(cache, heads, keys, kept, snapshot, area, subject, out);
     let cache = resolved.cache;
     let answer = resolved.answer;
     CachedResolution {

@@ -13,8 +13,8 @@ use mathlib.Core.Option.{Option, none, some}
 use lib.Dec.{eqb, ltb}
 use lib.ListN.{length}
 use borrow.Author.Tests.{eqb-true}
-use Rattle.subject.specs.Choice.{or}
-use Rattle.subject.specs.Original.{if_then_else_, equal}
+use Rattle.subject_rules.specs.Choice.{or}
+use Rattle.subject_rules.specs.Original.{if_then_else_, equal}
 use Rattle.sublist_tree.specs.Table.{TableEntry}
 use Rattle.sublist_original.specs.Original.{Ok, Std}
 use Rattle.binding_original.specs.Original.{SublistSnapshot, CacheEntry, HashMap, Iter, ResolveCache, Each, get, refresh, remove, guarded, without, evict-if-full, hit, miss, looked-up, resolve-with, wrapping-add}

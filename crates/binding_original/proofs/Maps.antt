@@ -7,7 +7,7 @@ use mathlib.Core.Bool.{Bool, true, false}
 use mathlib.Core.List.{List, [], _∷_, _++_, List·Memᴰ, List·Memᴰ·head, List·Memᴰ·tail}
 use mathlib.Core.Option.{none, some}
 use lib.ListN.{length}
-use Rattle.subject.specs.Original.{if_then_else_, equal}
+use Rattle.subject_rules.specs.Original.{if_then_else_, equal}
 use Rattle.sublist_tree.proofs.Bytes.{eqb-whole}
 use Rattle.binding_original.specs.Original.{CacheEntry, HashMap, Each, get, refresh, remove}
 use Rattle.binding_original.proofs.Keeping.{equal-sound}

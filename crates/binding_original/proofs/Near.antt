@@ -10,12 +10,12 @@ use mathlib.Core.Path.{_≡_, refl, sym, ap, subst}
 use mathlib.Core.Bool.{Bool, true, false}
 use mathlib.Core.List.{List, []}
 use lib.ListN.{getD}
-use Rattle.subject.specs.Choice.{pick}
-use Rattle.subject.specs.Answers.{answer}
+use Rattle.subject_rules.specs.Choice.{pick}
+use Rattle.subject_rules.specs.Answers.{answer}
 use Rattle.sublist_snapshot.specs.declared.Generation.{Generation}
-use Rattle.resolve_cache.specs.declared.ResolveCache.{ResolveCache}
-use Rattle.resolve_cache.specs.Area.{Area, stampAt, keyAt}
-use Rattle.resolve_cache.specs.Cache.{short, fresh, cacheNumbers, withCapacity, clear, emptied}
+use Rattle.resolve_cache_rules.specs.declared.ResolveCache.{ResolveCache}
+use Rattle.resolve_cache_rules.specs.Area.{Area, stampAt, keyAt}
+use Rattle.resolve_cache_rules.specs.Cache.{short, fresh, cacheNumbers, withCapacity, clear, emptied}
 use Rattle.binding_original.specs.Original as original
 use Rattle.binding_original.specs.Caches.{SameKept}
 use Rattle.binding_original.proofs.Maps.{each-at, Once}

@@ -14,19 +14,20 @@ use lib.Dec.{eqb, ltb}
 use lib.ListN.{length, take, drop}
 use lib.Seq.{take-append-seam}
 use borrow.Author.Tests.{ltb-true, ltb-false, le-ltb, eqb-true, eqb-false, ne-eqb}
-use Rattle.subject.specs.Choice.{pick, or}
-use Rattle.subject.specs.Answers.{Answer, answer}
-use Rattle.subject.specs.Grammar.{grammar}
-use Rattle.sublist_walk.specs.Walk.{found}
-use Rattle.sublist_walk.specs.Matching.{over}
+use Rattle.subject_rules.specs.Choice.{pick, or}
+use Rattle.subject_rules.specs.Answers.{Answer, answer}
+use Rattle.subject_rules.specs.Grammar.{grammar}
+use Rattle.sublist_walk_rules.specs.Walk.{found}
+use Rattle.sublist_walk_rules.specs.Matching.{over}
 use Rattle.sublist_snapshot.specs.declared.Generation.{Generation}
 use Rattle.sublist_snapshot.specs.declared.Snapshot.{Snapshot}
 use Rattle.sublist_snapshot.specs.Snapshot.{standsIn, walkOf}
-use Rattle.resolve_cache.specs.declared.ResolveCache.{ResolveCache}
-use Rattle.resolve_cache.specs.Area.{Area, keyLength, targetCount, keyAt, targetsAt, keep, touch}
-use Rattle.resolve_cache.specs.Cache.{short, bad, findFrom, oldestFrom, place, emptied, adopt, ticked, hit, walked, grown, qualifies, inKept, inOut, Handed, turnedBack, gives, handed, Resolved, unchanged, hitAt, miss, workBy, work, ifAccepted, resolve}
-use Rattle.resolve_cache.proofs.Slots.{Wide, wide-short, Alike, keep-wide, keep-length, keep-count, keep-key, keep-targets, keep-other, touch-wide, touch-alike, targets-length, small-good, find-sound, oldest-below}
-use Rattle.resolve_cache.proofs.Faithful.{unlessText, fitting}
+use Rattle.resolve_cache_rules.specs.declared.ResolveCache.{ResolveCache}
+use Rattle.resolve_cache_rules.specs.Area.{Area, keyLength, targetCount, keyAt, targetsAt, keep, touch}
+use Rattle.resolve_cache_rules.specs.Cache.{short, bad, findFrom, oldestFrom, place, emptied, adopt, ticked, hit, walked, grown, qualifies, inKept, inOut, Handed, turnedBack, gives, handed, Resolved, unchanged, hitAt, miss, workBy, work, ifAccepted, resolve}
+use Rattle.resolve_cache_rules.specs.Ready.{Wide}
+use Rattle.resolve_cache_rules.proofs.Slots.{wide-short, Alike, keep-wide, keep-length, keep-count, keep-key, keep-targets, keep-other, touch-wide, touch-alike, targets-length, small-good, find-sound, oldest-below}
+use Rattle.resolve_cache_rules.proofs.Faithful.{unlessText, fitting}
 use Rattle.binding.specs.Calls.{Kept}
 
 pub record Keeps (P : List ℕ → List ℕ → Type 0) (c : ResolveCache) (a : Area) : Type 0 where

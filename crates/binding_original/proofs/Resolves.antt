@@ -9,22 +9,22 @@ use mathlib.Core.List.{List, [], _∷_, map}
 use lib.Dec.{eqb}
 use lib.ListN.{length}
 use borrow.Author.Tests.{eqb-true}
-use Rattle.subject.specs.Choice.{pick, and, or}
-use Rattle.subject.specs.Text.{tokens}
-use Rattle.subject.specs.Fnv.{fnv}
-use Rattle.subject.specs.Answers.{Answer}
-use Rattle.subject.specs.Grammar.{grammar}
-use Rattle.subject.specs.Original.{validate}
+use Rattle.subject_rules.specs.Choice.{pick, and, or}
+use Rattle.subject_rules.specs.Text.{tokens}
+use Rattle.subject_rules.specs.Fnv.{fnv}
+use Rattle.subject_rules.specs.Answers.{Answer}
+use Rattle.subject_rules.specs.Grammar.{grammar}
+use Rattle.subject_rules.specs.Original.{validate}
 use Rattle.sublist_tree.specs.Tree.{peak}
 use Rattle.sublist_tree.specs.Table.{rootOf}
-use Rattle.sublist_walk.specs.Walk.{among}
+use Rattle.sublist_walk_rules.specs.Walk.{among}
 use Rattle.sublist_original.specs.Original.{Outcome, Ok, _>>=_, Std}
 use Rattle.sublist_snapshot.specs.declared.Generation.{Generation}
 use Rattle.sublist_snapshot.proofs.Standing.{holds-stands, holds-walk}
-use Rattle.resolve_cache.specs.declared.ResolveCache as cache
-use Rattle.resolve_cache.specs.Area.{Area}
-use Rattle.resolve_cache.specs.Cache.{adopt, Handed, turnedBack, gives, handed, Resolved}
-use Rattle.resolve_cache.proofs.Faithful.{unlessText, fitting}
+use Rattle.resolve_cache_rules.specs.declared.ResolveCache as cache
+use Rattle.resolve_cache_rules.specs.Area.{Area}
+use Rattle.resolve_cache_rules.specs.Cache.{adopt, Handed, turnedBack, gives, handed, Resolved}
+use Rattle.resolve_cache_rules.proofs.Faithful.{unlessText, fitting}
 use Rattle.binding.specs.Verdict.{singleHome, judgeHanded, resolveSingleHomeCached}
 use Rattle.binding.specs.Calls as ours
 use Rattle.binding.specs.Calls.{resolving, resolvingHome, Kept, replaced, resolvedAs, homeAs, resolveIn}

@@ -14,13 +14,13 @@ use mathlib.Core.Option.{Option, none, some}
 use lib.Dec.{eqb, ltb}
 use lib.ListN.{length}
 use borrow.Author.Tests.{eqb-true, eqb-false, ltb-true, ltb-false}
-use Rattle.subject.specs.Choice.{pick}
-use Rattle.subject.specs.Original.{if_then_else_, equal}
+use Rattle.subject_rules.specs.Choice.{pick}
+use Rattle.subject_rules.specs.Original.{if_then_else_, equal}
 use Rattle.sublist_snapshot.specs.Snapshot.{wrap}
-use Rattle.resolve_cache.specs.declared.ResolveCache.{ResolveCache}
-use Rattle.resolve_cache.specs.Area.{Area, stampAt, keyAt, targetsAt, keep, touch}
-use Rattle.resolve_cache.specs.Cache.{ticked, hit, grown, place, oldestFrom}
-use Rattle.resolve_cache.proofs.Slots.{touch-alike, touch-stamp, touch-stamp-other, keep-key, keep-targets, keep-stamp, keep-other, keep-stamp-other, oldest-least, oldest-below}
+use Rattle.resolve_cache_rules.specs.declared.ResolveCache.{ResolveCache}
+use Rattle.resolve_cache_rules.specs.Area.{Area, stampAt, keyAt, targetsAt, keep, touch}
+use Rattle.resolve_cache_rules.specs.Cache.{ticked, hit, grown, place, oldestFrom}
+use Rattle.resolve_cache_rules.proofs.Slots.{touch-alike, touch-stamp, touch-stamp-other, keep-key, keep-targets, keep-stamp, keep-other, keep-stamp-other, oldest-least, oldest-below}
 use Rattle.binding_original.specs.Original as original
 use Rattle.binding_original.specs.Original.{CacheEntry, HashMap, Iter, wrapping-add, without, miss}
 use Rattle.binding_original.specs.Caches.{row}

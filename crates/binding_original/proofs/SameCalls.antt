@@ -11,9 +11,9 @@ use mathlib.Core.List.{List, [], _∷_, map}
 use lib.Dec.{ltb}
 use lib.ListN.{length, getD}
 use borrow.Author.Tests.{ltb-true, ltb-false}
-use Rattle.subject.specs.Choice.{pick}
-use Rattle.subject.specs.Fnv.{fnv}
-use Rattle.subject.specs.Answers.{answer}
+use Rattle.subject_rules.specs.Choice.{pick}
+use Rattle.subject_rules.specs.Fnv.{fnv}
+use Rattle.subject_rules.specs.Answers.{answer}
 use Rattle.sublist_tree.specs.Lists.{All}
 use Rattle.sublist_tree.specs.Table.{TableEntry, rootOf}
 use Rattle.sublist_original.specs.Original.{Outcome, Ok, Std, Sublist, build}

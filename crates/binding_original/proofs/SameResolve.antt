@@ -14,16 +14,16 @@ use mathlib.Core.Option.{Option, none, some}
 use lib.Dec.{eqb, ltb}
 use lib.ListN.{length}
 use borrow.Author.Tests.{ltb-false, eqb-true, eqb-false}
-use Rattle.subject.specs.Choice.{pick, and, or}
-use Rattle.subject.specs.Answers.{answer}
-use Rattle.subject.specs.Original.{if_then_else_}
-use Rattle.sublist_walk.specs.Walk.{among}
+use Rattle.subject_rules.specs.Choice.{pick, and, or}
+use Rattle.subject_rules.specs.Answers.{answer}
+use Rattle.subject_rules.specs.Original.{if_then_else_}
+use Rattle.sublist_walk_rules.specs.Walk.{among}
 use Rattle.sublist_snapshot.specs.declared.Generation.{Generation}
-use Rattle.resolve_cache.specs.declared.ResolveCache.{ResolveCache}
-use Rattle.resolve_cache.specs.Area.{Area, keep}
-use Rattle.resolve_cache.specs.Cache.{cacheNumbers, withCapacity, emptied, clear, adopt, ticked, walked, grown, place}
-use Rattle.resolve_cache.proofs.Slots.{find-sound, find-none}
-use Rattle.resolve_cache.proofs.Faithful.{fresh-faithful}
+use Rattle.resolve_cache_rules.specs.declared.ResolveCache.{ResolveCache}
+use Rattle.resolve_cache_rules.specs.Area.{Area, keep}
+use Rattle.resolve_cache_rules.specs.Cache.{cacheNumbers, withCapacity, emptied, clear, adopt, ticked, walked, grown, place}
+use Rattle.resolve_cache_rules.proofs.Slots.{find-sound, find-none}
+use Rattle.resolve_cache_rules.proofs.Faithful.{fresh-faithful}
 use Rattle.binding.specs.Calls.{Kept}
 use Rattle.binding_original.specs.Original as original
 use Rattle.binding_original.specs.Original.{CacheEntry, Iter, guarded, get, miss}

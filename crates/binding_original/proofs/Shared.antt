@@ -7,21 +7,21 @@ use native.Mathlib.Omega.{arith}
 use mathlib.Core.Path.{_≡_, refl, sym, _∙_, ap, subst, fun-ext}
 use mathlib.Core.List.{List, [], _∷_}
 use lib.ListN.{replicate}
-use Rattle.subject.specs.Utf8.{sequence, firstBad}
-use Rattle.subject.specs.Fnv.{fnv, fnvFrom}
-use Rattle.subject.specs.Grammar.{grammar}
+use Rattle.subject_rules.specs.Utf8.{sequence, firstBad}
+use Rattle.subject_rules.specs.Fnv.{fnv, fnvFrom}
+use Rattle.subject_rules.specs.Grammar.{grammar}
 use Rattle.sublist_tree.specs.Tree.{worst}
 use Rattle.sublist_tree.specs.Table.{TableEntry}
 use Rattle.sublist_tree.specs.Timetable.{bytes, entry}
-use Rattle.sublist_area.specs.Words.{seek, literalChild, starChild}
-use Rattle.sublist_area.specs.Growing.{added, placed, childOrNew, onward, grown, planted}
-use Rattle.sublist_walk.specs.Walk.{collect, push, visit, visits, arrived, onToken, onTokens, exact, listed, ended, walkOver}
-use Rattle.sublist.specs.Building.{needed, worstOf, buildSays}
-use Rattle.sublist.specs.Passes.{counted, joined, lineIn, linesIn, told, settled, laidAt, laid, filledBy, filled}
-use Rattle.sublist.specs.Leaving.{buildLeaves}
+use Rattle.sublist_area_rules.specs.Words.{seek, literalChild, starChild}
+use Rattle.sublist_area_rules.specs.Growing.{added, placed, childOrNew, onward, grown, planted}
+use Rattle.sublist_walk_rules.specs.Walk.{collect, push, visit, visits, arrived, onToken, onTokens, exact, listed, ended, walkOver}
+use Rattle.sublist_rules.specs.Building.{needed, worstOf, buildSays}
+use Rattle.sublist_rules.specs.Passes.{counted, joined, lineIn, linesIn, told, settled, laidAt, laid, filledBy, filled}
+use Rattle.sublist_rules.specs.Leaving.{buildLeaves}
 use Rattle.sublist_original.specs.Original.{Ok, Std}
 use Rattle.sublist_snapshot.specs.Snapshot.{Table, first, copied, make}
-use Rattle.resolve_cache.specs.Cache.{withCapacity, resolve, fresh}
+use Rattle.resolve_cache_rules.specs.Cache.{withCapacity, resolve, fresh}
 use Rattle.binding.specs.declared.Resolution.{Resolution}
 use Rattle.binding.specs.declared.Resolution.the-variants.{Routed, NoStream}
 use Rattle.binding.specs.Calls.{Reply, resolved}

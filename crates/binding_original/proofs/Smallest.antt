@@ -8,7 +8,7 @@ use mathlib.Core.List.{List, [], _∷_, List·Memᴰ, List·Memᴰ·head, List·
 use mathlib.Core.Option.{Option, none, some}
 use lib.Dec.{ltb}
 use borrow.Author.Tests.{ltb-true, ltb-false}
-use Rattle.subject.specs.Original.{if_then_else_}
+use Rattle.subject_rules.specs.Original.{if_then_else_}
 use Rattle.binding_original.specs.Original.{CacheEntry, HashMap, Each, Iter}
 
 abbrev Pair : Type 0

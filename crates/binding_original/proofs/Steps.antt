@@ -11,24 +11,24 @@ use lib.Dec.{eqb, ltb}
 use lib.ListN.{length, take, drop}
 use lib.Seq.{take-append-seam}
 use borrow.Author.Tests.{ltb-true, ltb-false, eqb-true}
-use Rattle.subject.specs.Choice.{pick, or}
-use Rattle.subject.specs.Text.{tokens}
-use Rattle.subject.specs.Fnv.{fnv}
-use Rattle.subject.specs.Answers.{Answer, answer}
-use Rattle.subject.specs.Grammar.{grammar}
-use Rattle.subject.specs.Original.{validate}
+use Rattle.subject_rules.specs.Choice.{pick, or}
+use Rattle.subject_rules.specs.Text.{tokens}
+use Rattle.subject_rules.specs.Fnv.{fnv}
+use Rattle.subject_rules.specs.Answers.{Answer, answer}
+use Rattle.subject_rules.specs.Grammar.{grammar}
+use Rattle.subject_rules.specs.Original.{validate}
 use Rattle.sublist_tree.specs.Tree.{peak}
 use Rattle.sublist_tree.specs.Table.{TableEntry, rootOf}
 use Rattle.sublist_tree.proofs.Hash.{hash-fork}
-use Rattle.sublist_walk.specs.Walk.{among}
-use Rattle.sublist_walk.specs.Matching as matching
-use Rattle.sublist_walk.specs.Matching.{over, outcome, ifSubject}
+use Rattle.sublist_walk_rules.specs.Walk.{among}
+use Rattle.sublist_walk_rules.specs.Matching as matching
+use Rattle.sublist_walk_rules.specs.Matching.{over, outcome, ifSubject}
 use Rattle.sublist_original.specs.Original.{Outcome, Ok, _>>=_, Std, Sublist}
 use Rattle.sublist_snapshot.specs.Snapshot.{Table, lengthOf, copied, stored, Stored, matchIn}
 use Rattle.sublist_snapshot.proofs.Copies.{copied-holds, store-full, store-fits}
 use Rattle.sublist_snapshot.proofs.Standing.{holds-match}
-use Rattle.resolve_cache.specs.Cache.{clear, turnedBack, gives}
-use Rattle.resolve_cache.proofs.Faithful.{unlessText, fitting}
+use Rattle.resolve_cache_rules.specs.Cache.{clear, turnedBack, gives}
+use Rattle.resolve_cache_rules.proofs.Faithful.{unlessText, fitting}
 use Rattle.binding.specs.Verdict.{singleHome, judgeMatch, resolveSingleHome}
 use Rattle.binding.specs.Calls as ours
 use Rattle.binding.specs.Calls.{store, clearing, asking, askingHome, Kept, replaced, stamped, shown, homeAs, storeTo}

@@ -10,17 +10,17 @@ use mathlib.Core.Option.{Option, none, some}
 use lib.Dec.{eqb, ltb}
 use lib.ListN.{length}
 use borrow.Author.Tests.{ltb-false}
-use Rattle.subject.specs.Choice.{pick, or}
-use Rattle.subject.specs.Text.{tokens}
-use Rattle.subject.specs.Utf8.{firstBad}
-use Rattle.subject.specs.Answers.{Answer, answer, unless}
-use Rattle.subject.specs.Grammar.{check, notUtf8, grammar}
-use Rattle.subject.specs.Original as subject
-use Rattle.subject.specs.Original.{Error, Empty, EmptyToken, IllegalChar, ControlChar, WildcardNotAllowed, TailWildcardNotLast, TooDeep, validate, answerOf}
-use Rattle.subject.proofs.SameGrammar.{grammar-original}
+use Rattle.subject_rules.specs.Choice.{pick, or}
+use Rattle.subject_rules.specs.Text.{tokens}
+use Rattle.subject_rules.specs.Utf8.{firstBad}
+use Rattle.subject_rules.specs.Answers.{Answer, answer, unless}
+use Rattle.subject_rules.specs.Grammar.{check, notUtf8, grammar}
+use Rattle.subject_rules.specs.Original as subject
+use Rattle.subject_rules.specs.Original.{Error, Empty, EmptyToken, IllegalChar, ControlChar, WildcardNotAllowed, TailWildcardNotLast, TooDeep, validate, answerOf}
+use Rattle.subject_rules.proofs.SameGrammar.{grammar-original}
 use Rattle.sublist_original.specs.Original.{Outcome, Ok}
-use Rattle.resolve_cache.specs.Cache.{Handed, turnedBack, gives}
-use Rattle.resolve_cache.proofs.Faithful.{unlessText, fitting}
+use Rattle.resolve_cache_rules.specs.Cache.{Handed, turnedBack, gives}
+use Rattle.resolve_cache_rules.proofs.Faithful.{unlessText, fitting}
 use Rattle.binding.specs.Verdict.{singleHome}
 use Rattle.binding.specs.Calls as ours
 use Rattle.binding_original.specs.Original.{single-home}

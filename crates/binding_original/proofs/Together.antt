@@ -13,12 +13,12 @@ use mathlib.Core.Bool.{Bool, true, false}
 use mathlib.Core.List.{List, _∷_}
 use lib.Dec.{eqb}
 use borrow.Author.Tests.{eqb-true, eqb-false, ne-eqb}
-use Rattle.subject.specs.Choice.{pick, or}
-use Rattle.subject.specs.Fnv.{fnv}
+use Rattle.subject_rules.specs.Choice.{pick, or}
+use Rattle.subject_rules.specs.Fnv.{fnv}
 use Rattle.sublist_tree.specs.Lists.{All}
 use Rattle.sublist_tree.specs.Table.{TableEntry, rootOf, Accepted}
 use Rattle.sublist_tree.proofs.Bytes.{eqb-whole}
-use Rattle.sublist_walk.specs.Walk.{among}
+use Rattle.sublist_walk_rules.specs.Walk.{among}
 use Rattle.sublist_original.specs.Original.{Std}
 use Rattle.sublist_snapshot.proofs.Copies.{HoldsIn}
 use Rattle.binding.specs.Calls.{Kept}

@@ -9,22 +9,22 @@ use mathlib.Core.Path.{_≡_, refl, _∙_, ap, subst}
 use mathlib.Core.Bool.{Bool, true, false}
 use mathlib.Core.List.{List, [], _∷_, map}
 use lib.ListN.{length, getD, length-map}
-use Rattle.subject.specs.Choice.{pick}
-use Rattle.subject.specs.Fnv.{fnv}
-use Rattle.subject.specs.Answers.{answer}
+use Rattle.subject_rules.specs.Choice.{pick}
+use Rattle.subject_rules.specs.Fnv.{fnv}
+use Rattle.subject_rules.specs.Answers.{answer}
 use Rattle.sublist_tree.specs.Lists.{All}
 use Rattle.sublist_tree.specs.Table.{TableEntry, entryLine}
 use Rattle.sublist_entries.specs.Entries.{readFrom}
-use Rattle.sublist.proofs.Composed.{lines-length}
-use Rattle.sublist.proofs.Builds.{taken}
+use Rattle.sublist_rules.proofs.Composed.{lines-length}
+use Rattle.sublist_rules.proofs.Builds.{taken}
 use Rattle.sublist_original.specs.Original.{Ok, Std, Sublist, build}
 use Rattle.sublist_original.specs.Entries.{builderOf}
 use Rattle.sublist_original.proofs.Accepting.{insert-accepts}
 use Rattle.sublist_original.proofs.SameTable.{build-accepted}
 use Rattle.sublist_snapshot.specs.Snapshot.{Table, emptyTable}
-use Rattle.resolve_cache.specs.declared.ResolveCache as ours
-use Rattle.resolve_cache.specs.Area.{Area}
-use Rattle.resolve_cache.specs.Cache.{short, fresh, cacheNumbers, withCapacity}
+use Rattle.resolve_cache_rules.specs.declared.ResolveCache as ours
+use Rattle.resolve_cache_rules.specs.Area.{Area}
+use Rattle.resolve_cache_rules.specs.Cache.{short, fresh, cacheNumbers, withCapacity}
 use Rattle.binding.specs.Calls.{Call, store, clearing, asking, resolving, askingHome, resolvingHome}
 use Rattle.binding.specs.Demand.{Opened, Lent}
 use Rattle.binding.specs.Built.{BuiltFrom}

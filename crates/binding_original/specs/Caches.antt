@@ -6,15 +6,15 @@ use mathlib.Core.Bool.{Bool, true, false, not}
 use mathlib.Core.List.{List, [], _∷_, List·Memᴰ}
 use lib.Dec.{eqb, ltb}
 use lib.ListN.{length}
-use Rattle.subject.specs.Choice.{pick, and, or}
-use Rattle.sublist_walk.specs.Walk.{among}
-use Rattle.subject.specs.Original.{Str}
+use Rattle.subject_rules.specs.Choice.{pick, and, or}
+use Rattle.sublist_walk_rules.specs.Walk.{among}
+use Rattle.subject_rules.specs.Original.{Str}
 use Rattle.sublist_original.specs.Original.{Std}
-use Rattle.resolve_cache.specs.Area.{Area, stampAt, keyAt, targetsAt}
+use Rattle.resolve_cache_rules.specs.Area.{Area, stampAt, keyAt, targetsAt}
 use Rattle.binding.specs.Calls as ours
-use Rattle.binding.specs.Calls.{Call, store, clearing, asking, resolving, askingHome, resolvingHome, reply}
+use Rattle.binding.specs.Calls.{Call, store, clearing, asking, resolving, askingHome, resolvingHome}
 use Rattle.binding_original.specs.Original.{CacheEntry, Iter, ResolveCache, len, walk-count}
-use Rattle.binding_original.specs.Calls.{Yard, cabinetOf, NamedCall, replyOn, afterOn, World, Asked, call}
+use Rattle.binding_original.specs.Calls.{Yard, NamedCall, replyOn, afterOn, World, Asked, call}
 use Rattle.binding_original.specs.Calls.{Compared}
 
 -- what slot i of ours keeps: the subject, and its list and stamp

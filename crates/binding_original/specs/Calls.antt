@@ -3,13 +3,13 @@
 use Prim.Native.Nat.{ℕ, _≤_}
 use mathlib.Core.Path.{_≡_}
 use mathlib.Core.Bool.{Bool, true, false}
-use mathlib.Core.List.{List, [], _∷_}
+use mathlib.Core.List.{List, []}
 use lib.Dec.{eqb, leb}
 use lib.ListN.{length, getD}
-use Rattle.subject.specs.Choice.{pick, and, or}
-use Rattle.subject.specs.Answers.{answer}
-use Rattle.subject.specs.Original as subject
-use Rattle.subject.specs.Original.{Str, Error, validate, answerOf}
+use Rattle.subject_rules.specs.Choice.{pick, and, or}
+use Rattle.subject_rules.specs.Answers.{answer}
+use Rattle.subject_rules.specs.Original as subject
+use Rattle.subject_rules.specs.Original.{Str, Error, validate, answerOf}
 use Rattle.sublist_tree.specs.Table.{TableEntry}
 use Rattle.sublist_original.specs.Original.{Outcome, Ok, _>>=_, Std, Sublist, build}
 use Rattle.sublist_original.specs.Entries.{builderOf}

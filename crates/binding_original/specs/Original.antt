@@ -12,7 +12,7 @@ use mathlib.Core.List.{List, [], _∷_, List·Memᴰ}
 use mathlib.Core.Option.{Option, none, some}
 use lib.Dec.{eqb, ltb}
 use lib.ListN.{length}
-use Rattle.subject.specs.Original.{if_then_else_, Str, equal}
+use Rattle.subject_rules.specs.Original.{if_then_else_, Str, equal}
 use Rattle.sublist_original.specs.Original as sublist
 use Rattle.sublist_original.specs.Original.{Outcome, Ok, Err, Panic, _>>=_, push, Std, Sublist, build, match-into}
 use Rattle.sublist_original.specs.Original.{match-subject}

@@ -8,26 +8,28 @@ use mathlib.Core.Option.{Option, none, some}
 use lib.Dec.{eqb, ltb}
 use lib.ListN.{length}
 use borrow.Author.Tests.{ltb-false, eqb-true, eqb-false}
-use Rattle.subject.specs.Choice.{pick, or}
+use Rattle.subject_rules.specs.Choice.{pick, or}
 use Rattle.subject.specs.declared.SubjectError.{SubjectError}
 use Rattle.subject.specs.declared.Parsed.{Parsed}
 use Rattle.subject.specs.declared.Parsed.the-variants.{Accepted, Refused}
-use Rattle.subject.specs.Answers.{Answer, answer, refusal, parsed, whenAccepted}
-use Rattle.subject.specs.Grammar.{grammar}
+use Rattle.subject_rules.specs.Answers.{Answer, answer, whenAccepted}
+use Rattle.subject.specs.Answers.{refusal, parsed}
+use Rattle.subject_rules.specs.Grammar.{grammar}
 use Rattle.subject.proofs.Refusals.{refused-stands}
 use Rattle.sublist_snapshot.specs.declared.Generation.{Generation}
 use Rattle.sublist_snapshot.specs.declared.Snapshot.{Snapshot}
 use Rattle.sublist_snapshot.specs.Snapshot.{standsIn, walkOf}
-use Rattle.resolve_cache.specs.declared.ResolveCache.{ResolveCache}
+use Rattle.resolve_cache_rules.specs.declared.ResolveCache.{ResolveCache}
 use Rattle.resolve_cache.specs.declared.ResolveAnswer.{ResolveAnswer}
 use Rattle.resolve_cache.specs.declared.ResolveAnswer.the-variants.{CacheShort, BadSlot, Damaged, OutShort}
 use Rattle.resolve_cache.specs.declared.Decision.the-variants.{Refuse, Hit}
-use Rattle.resolve_cache.specs.Area.{Area, keyLength, targetCount}
-use Rattle.resolve_cache.specs.Cache.{short, badSlot, badFrom, bad, findFrom, emptied, adopt, Resolved}
-use Rattle.resolve_cache.specs.Cache.{unchanged, workBy, work, ifAccepted, resolve}
+use Rattle.resolve_cache_rules.specs.Area.{Area, keyLength, targetCount}
+use Rattle.resolve_cache_rules.specs.Cache.{short, badSlot, badFrom, bad, findFrom, emptied, adopt, Resolved}
+use Rattle.resolve_cache_rules.specs.Cache.{unchanged, workBy, work, ifAccepted, resolve}
 use Rattle.resolve_cache.specs.Answers.{resolveAnswer}
-use Rattle.resolve_cache.specs.Deciding.{Wide, Ready, Small, seen, current, showing, Decides}
-use Rattle.resolve_cache.proofs.Slots.{or-false, short-wide, find-sound}
+use Rattle.resolve_cache_rules.specs.Ready.{Wide, Ready, Small}
+use Rattle.resolve_cache.specs.Deciding.{seen, current, showing, Decides}
+use Rattle.resolve_cache_rules.proofs.Slots.{or-false, short-wide, find-sound}
 
 small-from : (heads : List ℕ) (i n : ℕ) → badFrom heads i n ≡ false → (j : ℕ) → i ≤ j → j < i + n → keyLength heads j ≤ 256
 small-from heads i zero e j h k = absurd (omega arith)

@@ -7,11 +7,12 @@ use lib.ListN.{length, take, drop, length-drop, drop-of-length-le}
 use lib.Seq.{take-all, take-nil}
 use Rattle.subject.specs.declared.SubjectError.{SubjectError}
 use Rattle.subject.specs.declared.Parsed.the-variants.{Refused}
-use Rattle.subject.specs.Answers.{Answer, answer, refusal, whenAccepted}
+use Rattle.subject_rules.specs.Answers.{Answer, answer, whenAccepted}
+use Rattle.subject.specs.Answers.{refusal}
 use Rattle.subject.proofs.Refusals.{refused-stands}
-use Rattle.sublist_walk.specs.Walk.{part}
+use Rattle.sublist_walk_rules.specs.Walk.{part}
 use Rattle.resolve_cache.specs.declared.ResolveAnswer.the-variants.{Invalid}
-use Rattle.resolve_cache.specs.Cache.{handed}
+use Rattle.resolve_cache_rules.specs.Cache.{handed}
 use Rattle.resolve_cache.specs.Answers.{resolveAnswer, listOf}
 
 module _ (l : List ℕ) (from count : ℕ) where

@@ -1,5 +1,5 @@
 -- What a match through the snapshot and the keeping of its list make of a resolve that walks.
-use Prim.Native.Nat.{ℕ, zero, suc, _≤_, _<_}
+use Prim.Native.Nat.{ℕ, zero, suc, _≤_}
 use native.Mathlib.Omega.{arith}
 use mathlib.Core.Path.{_≡_, refl, sym, _∙_, ap, subst}
 use mathlib.Core.Bool.{Bool, true, false, not}
@@ -8,24 +8,25 @@ use lib.Dec.{ltb}
 use lib.ListN.{length, take, drop}
 use lib.Seq.{take-append-seam}
 use borrow.Author.Tests.{ltb-false}
-use Rattle.subject.specs.Choice.{pick, or}
-use Rattle.subject.specs.Answers.{Answer, answer, whenAccepted}
-use Rattle.subject.specs.Grammar.{grammar}
-use Rattle.sublist_walk.specs.Walk.{Walked, found, failed}
-use Rattle.sublist_walk.specs.Matching.{over, Outcome, outcome, written, ifSubject}
+use Rattle.subject_rules.specs.Choice.{pick, or}
+use Rattle.subject_rules.specs.Answers.{Answer, answer, whenAccepted}
+use Rattle.subject_rules.specs.Grammar.{grammar}
+use Rattle.sublist_walk_rules.specs.Walk.{Walked, found, failed}
+use Rattle.sublist_walk_rules.specs.Matching.{over, Outcome, outcome, written, ifSubject}
 use Rattle.sublist_snapshot.specs.declared.Generation.{Generation}
 use Rattle.sublist_snapshot.specs.declared.Snapshot.{Snapshot}
 use Rattle.sublist_snapshot.specs.Snapshot.{standsIn, walkOf, withGeneration, matchIn}
 use Rattle.sublist_snapshot.proofs.Standing.{match-walk}
-use Rattle.resolve_cache.specs.declared.Tick.{Tick}
-use Rattle.resolve_cache.specs.declared.ResolveCache.{ResolveCache}
+use Rattle.resolve_cache_rules.specs.declared.Tick.{Tick}
+use Rattle.resolve_cache_rules.specs.declared.ResolveCache.{ResolveCache}
 use Rattle.resolve_cache.specs.declared.ResolveAnswer.the-variants as answers
 use Rattle.resolve_cache.specs.declared.Resolved.{Resolved as Returned}
-use Rattle.resolve_cache.specs.Area.{Area, keep}
-use Rattle.resolve_cache.specs.Cache.{place, adopt, ticked, walked, grown, qualifies, inOut, Resolved}
-use Rattle.resolve_cache.specs.Cache.{unchanged, missed, miss, ifAccepted}
+use Rattle.resolve_cache_rules.specs.Area.{Area, keep}
+use Rattle.resolve_cache_rules.specs.Cache.{place, adopt, ticked, walked, grown, qualifies, inOut, Resolved}
+use Rattle.resolve_cache_rules.specs.Cache.{unchanged, missed, miss, ifAccepted}
 use Rattle.resolve_cache.specs.Answers.{left}
-use Rattle.resolve_cache.specs.Deciding.{Ready, Keeps, current, walking}
+use Rattle.resolve_cache_rules.specs.Ready.{Ready}
+use Rattle.resolve_cache.specs.Deciding.{Keeps, current, walking}
 use Rattle.resolve_cache.proofs.Decisions.{adopt-used}
 
 -- neither length is over its limit

@@ -1,11 +1,5 @@
 pub mod Decisions
-pub mod Faithful
 pub mod Handing
 pub mod Keeping
-pub mod Limits
-pub mod Outputs
-pub mod Put
-pub mod Rows
 pub mod Scans
-pub mod Slots
 pub mod Writes

@@ -10,12 +10,13 @@ use lib.Dec.{ltb}
 use lib.ListN.{length, drop, length-drop}
 use lib.Seq.{length-take-le}
 use borrow.Author.Tests.{lt-ltb, le-ltb, ltb-true, ltb-false}
-use Rattle.subject.specs.Choice.{pick, or}
-use Rattle.subject.specs.Text.{same}
+use Rattle.subject_rules.specs.Choice.{pick, or}
+use Rattle.subject_rules.specs.Text.{same}
 use Rattle.sublist_tree.proofs.Bytes.{same-sound}
-use Rattle.resolve_cache.specs.Area.{keyLength, targetCount, stampAt, keyAt}
-use Rattle.resolve_cache.specs.Cache.{badSlot, badFrom, findFrom, oldestFrom}
-use Rattle.resolve_cache.specs.Deciding.{Small, Passes}
+use Rattle.resolve_cache_rules.specs.Area.{keyLength, targetCount, stampAt, keyAt}
+use Rattle.resolve_cache_rules.specs.Cache.{badSlot, badFrom, findFrom, oldestFrom}
+use Rattle.resolve_cache_rules.specs.Ready.{Small}
+use Rattle.resolve_cache.specs.Deciding.{Passes}
 
 left-one : (i n : ℕ) → i < n → n - i ≡ suc (n - suc i)
 left-one i n h = omega arith

@@ -2,20 +2,14 @@
 -- and what a call answered and left as the calls' definitions have it.
 use Prim.Native.Nat.{ℕ}
 use mathlib.Core.List.{List, [], _∷_}
-use Rattle.subject.specs.Answers.{Answer, answer, refusal}
-use Rattle.resolve_cache.specs.declared.MadeCache.{MadeCache}
-use Rattle.resolve_cache.specs.declared.MadeCache.the-variants.{Made, CacheShort as MadeShort}
+use Rattle.subject_rules.specs.Answers.{Answer, answer}
+use Rattle.subject.specs.Answers.{refusal}
 use Rattle.resolve_cache.specs.declared.ResolveAnswer.{ResolveAnswer}
 use Rattle.resolve_cache.specs.declared.ResolveAnswer.the-variants.{Kept, Walked, Invalid}
 use Rattle.resolve_cache.specs.declared.ResolveAnswer.the-variants.{CacheShort, BadSlot, Damaged, OutShort}
 use Rattle.resolve_cache.specs.declared.Resolved.{Resolved as Returned}
-use Rattle.resolve_cache.specs.Area.{Area}
-use Rattle.resolve_cache.specs.Cache.{cacheNumbers, inKept, inOut, Handed, turnedBack, gives, Resolved}
-
--- the making of a cache: its numbers, or 17
-abbrev pub cacheAnswer : MadeCache → Answer
-cacheAnswer (Made cache) = answer 0 (cacheNumbers cache)
-cacheAnswer MadeShort = answer 17 []
+use Rattle.resolve_cache_rules.specs.Area.{Area}
+use Rattle.resolve_cache_rules.specs.Cache.{inKept, inOut, Handed, turnedBack, gives, Resolved}
 
 -- a resolve: where its list lies; 1 to 9; 17; 18; 19; 21 with the length needed
 abbrev pub resolveAnswer : ResolveAnswer → Answer
@@ -26,10 +20,6 @@ resolveAnswer CacheShort = answer 17 []
 resolveAnswer BadSlot = answer 18 []
 resolveAnswer Damaged = answer 19 []
 resolveAnswer (OutShort needed) = answer 21 (needed ∷ [])
-
--- the three lent lists as an area
-abbrev pub lent : List ℕ → List ℕ → List ℕ → Area
-lent heads keys kept = record { heads = heads; keys = keys; kept = kept }
 
 -- what a resolve returned, with the areas as it left them
 abbrev pub left : Returned → Area → List ℕ → Resolved

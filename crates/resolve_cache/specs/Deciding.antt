@@ -1,50 +1,29 @@
 -- Only private contracts cite this file: what a resolve comes to before anything is written,
 -- and what its steps ask for and leave.
-use Prim.Native.Nat.{ℕ, _+_, _*_, _≤_, _<_}
+use Prim.Native.Nat.{ℕ, _*_, _≤_, _<_}
 use mathlib.Core.Path.{_≡_}
-use mathlib.Core.Bool.{Bool, true, false}
-use mathlib.Core.List.{List, [], _∷_}
+use mathlib.Core.Bool.{false}
+use mathlib.Core.List.{List, []}
 use mathlib.Core.Option.{Option, none, some}
 use lib.Dec.{ltb}
 use lib.ListN.{length}
-use Rattle.subject.specs.Choice.{pick}
-use Rattle.subject.specs.Answers.{Answer, answer}
-use Rattle.subject.specs.Grammar.{grammar}
+use Rattle.subject_rules.specs.Choice.{pick}
+use Rattle.subject_rules.specs.Answers.{answer}
+use Rattle.subject_rules.specs.Grammar.{grammar}
 use Rattle.sublist_snapshot.specs.declared.Snapshot.{Snapshot}
 use Rattle.sublist_snapshot.specs.Snapshot.{standsIn, walkOf}
-use Rattle.resolve_cache.specs.declared.ResolveCache.{ResolveCache}
+use Rattle.resolve_cache_rules.specs.declared.ResolveCache.{ResolveCache}
 use Rattle.resolve_cache.specs.declared.Slot.{Slot}
 use Rattle.resolve_cache.specs.declared.Slot.the-variants.{At, Nothing}
-use Rattle.resolve_cache.specs.declared.ResolveAnswer.{ResolveAnswer}
 use Rattle.resolve_cache.specs.declared.ResolveAnswer.the-variants.{Walked, OutShort}
 use Rattle.resolve_cache.specs.declared.Resolved.{Resolved as Returned}
 use Rattle.resolve_cache.specs.declared.Decision.{Decision}
 use Rattle.resolve_cache.specs.declared.Decision.the-variants.{Refuse, Hit, Walk}
-use Rattle.resolve_cache.specs.Area.{Area, keyLength, targetCount, keep, touch}
-use Rattle.resolve_cache.specs.Cache.{findFrom, place, adopt, ticked, hit, walked, grown, qualifies, inKept}
-use Rattle.resolve_cache.specs.Cache.{Resolved, unchanged, miss, ifAccepted, resolve}
+use Rattle.resolve_cache_rules.specs.Area.{Area, keyLength, targetCount, keep, touch}
+use Rattle.resolve_cache_rules.specs.Cache.{place, adopt, ticked, hit, walked, grown, qualifies, inKept}
+use Rattle.resolve_cache_rules.specs.Cache.{Resolved, unchanged, miss, ifAccepted, resolve}
+use Rattle.resolve_cache_rules.specs.Ready.{Ready, Accepted}
 use Rattle.resolve_cache.specs.Answers.{resolveAnswer}
-
--- the three lists have room for n slots, 1,024 at the most
-pub record Wide (n : ℕ) (a : Area) : Type 0 where
-  pub few : n ≤ 1024
-  pub heads : 3 * n ≤ length (a .heads)
-  pub keys : 256 * n ≤ length (a .keys)
-  pub kept : 16 * n ≤ length (a .kept)
-
--- 17 and 18 on the capacity do not apply
-pub record Ready (c : ResolveCache) (a : Area) : Type 0 where
-  pub any : 1 ≤ c .capacity
-  pub fits : c .used ≤ c .capacity
-  pub wide : Wide (c .capacity) a
-
--- 1 to 9 do not apply
-abbrev pub Accepted : List ℕ → Type 0
-Accepted subject = (n : ℕ) × (grammar false subject ≡ answer 0 (n ∷ []))
-
--- the first n slots have keys of at most 256 bytes
-abbrev pub Small : List ℕ → ℕ → Type 0
-Small heads n = (i : ℕ) → i < n → keyLength heads i ≤ 256
 
 -- the slots from one place up to another have keys of other sizes
 pub record Passes (heads : List ℕ) (size from to n : ℕ) : Type 0 where

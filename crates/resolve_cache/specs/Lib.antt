@@ -1,8 +1,4 @@
--- The resolve cache: its area, its state and its calls.
-pub mod Area
-pub mod Cache
+-- 01's numbers and values of a resolve's answers.
 pub mod Answers
 -- Only private contracts cite this one.
 pub mod Deciding
--- Rows of ours.
-pub mod Rows

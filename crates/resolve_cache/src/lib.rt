@@ -4,56 +4,38 @@
 // stamp), `keys` 256 bytes, `kept` 16 targets.
 ghost use mathlib.Core.Path.{_≡_};
 ghost use mathlib.Core.List.{[], _∷_};
-ghost use Prim.Native.Nat.{_+_, _*_, _-_, _≤_, _<_, max};
-ghost use lib.Dec.{eqb};
+ghost use Prim.Native.Nat.{_+_, _*_, _-_, _≤_, _<_};
 ghost use lib.ListN.{length};
-ghost use Rattle.subject.specs.Text.{same};
-ghost use Rattle.subject.specs.Answers.{answer, parsed, whenAccepted};
+ghost use Rattle.subject_rules.specs.Text.{same};
+ghost use Rattle.subject_rules.specs.Answers.{answer, whenAccepted};
+ghost use Rattle.subject.specs.Answers.{parsed};
 ghost use Rattle.sublist_tree.specs.Lists.{put};
-ghost use Rattle.sublist_walk.specs.Walk.{part};
+ghost use Rattle.sublist_walk_rules.specs.Walk.{part};
 ghost use Rattle.sublist_snapshot.specs.Snapshot.{wrap};
-ghost use Rattle.resolve_cache.specs.Area.{keyLength, keyAt, keep};
-ghost use Rattle.resolve_cache.specs.Cache.{short, badSlot, badFrom, bad, findFrom, oldestFrom, place};
-ghost use Rattle.resolve_cache.specs.Cache.{withCapacity, newCache, clear, adopt, ticked, hit, walked, grown};
-ghost use Rattle.resolve_cache.specs.Cache.{qualifies, handed, resolve};
-ghost use Rattle.resolve_cache.specs.Answers.{cacheAnswer, resolveAnswer, lent, left, listOf};
-ghost use Rattle.resolve_cache.specs.Deciding.{Wide, Ready, Accepted, Small, Passes, slotOf, seen, Keeps};
+ghost use Rattle.resolve_cache_rules.specs.Area.{keyLength, keyAt, keep};
+ghost use Rattle.resolve_cache_rules.specs.Cache.{badSlot, badFrom, bad, findFrom, oldestFrom, place};
+ghost use Rattle.resolve_cache_rules.specs.Cache.{adopt, ticked, hit, walked, grown};
+ghost use Rattle.resolve_cache_rules.specs.Cache.{qualifies, handed, resolve};
+ghost use Rattle.resolve_cache_rules.specs.Answers.{lent};
+ghost use Rattle.resolve_cache.specs.Answers.{resolveAnswer, left, listOf};
+ghost use Rattle.resolve_cache_rules.specs.Ready.{Wide, Ready, Accepted, Small};
+ghost use Rattle.resolve_cache.specs.Deciding.{Passes, slotOf, seen, Keeps};
 ghost use Rattle.resolve_cache.specs.Deciding.{walking, Decides};
+use resolve_cache_rules::ResolveCache;
+use resolve_cache_rules::SLOT_BYTES;
+use resolve_cache_rules::SLOT_NUMBERS;
+use resolve_cache_rules::SLOT_TARGETS;
+use resolve_cache_rules::Tick;
 use subject::Parsed;
 use subject::SubjectError;
 use sublist_snapshot::Generation;
 use sublist_snapshot::Snapshot;
 use sublist_snapshot::SnapshotMatch;
 
-// What a slot takes: numbers of `heads`, bytes of `keys`, targets of `kept`.
-pub const SLOT_NUMBERS: usize = 3;
-
-pub const SLOT_BYTES: usize = 256;
-
-pub const SLOT_TARGETS: usize = 16;
-
 // Where a slot's number of targets and its stamp lie among its numbers; the key's length is the first.
 const COUNT_AT: usize = 1;
 
 const STAMP_AT: usize = 2;
-
-// A cache's own count of its resolves, which stamps its slots. A tick is never a generation.
-pub struct Tick(pub u64);
-
-// A cache's numbers; its slots lie in a lent area.
-pub struct ResolveCache {
-    pub capacity: usize,
-    pub used: usize,
-    pub generation: Generation,
-    pub tick: Tick,
-    pub walks: u64,
-}
-
-// A fresh cache, or an area too short for it.
-pub enum MadeCache {
-    Made(ResolveCache),
-    CacheShort,
-}
 
 // Where a resolve's list lies: a part of the cache's targets, or the first places of the output. Or why it is refused.
 pub enum ResolveAnswer {
@@ -85,107 +67,28 @@ enum Decision {
     Walk,
 }
 
-impl ResolveCache {
-    // The most slots that a cache may have, and how many `new` gives it.
-    pub const DEFAULT_CAPACITY: usize = 1024;
-
-    // A fresh cache of so many slots, one at the least, in the lent area.
-    pub fn with_capacity(capacity: usize, heads: &[u64], keys: &[u8], kept: &[u32]) -> MadeCache
-        ensures { λ r. ⌜
-            cacheAnswer r
-            ≡ withCapacity capacity (lent (now (heads .entry)) (now (keys .entry)) (now (kept .entry))) ⌝ }
-    {
-        let slots = at_least_one(capacity);
-        if is_short(slots, heads, keys, kept) {
-            return MadeCache::CacheShort;
-        }
-        MadeCache::Made(ResolveCache {
-            capacity: slots,
-            used: 0,
-            generation: Generation(0),
-            tick: Tick(0),
-            walks: 0,
-        })
-    }
-
-    // A fresh cache of 1,024 slots.
-    pub fn new(heads: &[u64], keys: &[u8], kept: &[u32]) -> MadeCache
-        ensures { λ r. ⌜
-            cacheAnswer r
-            ≡ newCache (lent (now (heads .entry)) (now (keys .entry)) (now (kept .entry))) ⌝ }
-    {
-        ResolveCache::with_capacity(ResolveCache::DEFAULT_CAPACITY, heads, keys, kept)
-    }
-
-    // The most subjects that the cache keeps lists for.
-    pub fn capacity(self) -> usize
-        ensures { λ r. ⌜ r ≡ self .capacity ⌝ }
-    {
-        self.capacity
-    }
-
-    // How many subjects it keeps lists for.
-    pub fn len(self) -> usize
-        ensures { λ r. ⌜ r ≡ self .used ⌝ }
-    {
-        self.used
-    }
-
-    // Whether it keeps no list.
-    pub fn is_empty(self) -> bool
-        ensures { λ r. ⌜ r ≡ eqb (self .used) 0 ⌝ }
-    {
-        self.used == 0
-    }
-
-    // How many resolves walked the table.
-    pub fn walk_count(self) -> u64
-        ensures { λ r. ⌜ r ≡ self .walks ⌝ }
-    {
-        self.walks
-    }
-
-    // The generation of the table that its lists are from.
-    pub fn generation(self) -> Generation
-        ensures { λ r. ⌜ r ≡ self .generation ⌝ }
-    {
-        self.generation
-    }
-
-    // Emptied; generation and walks remain.
-    pub fn clear(self) -> ResolveCache
-        ensures { λ r. ⌜ r ≡ clear self ⌝ }
-    {
-        let tick = Tick(0);
-        let mut next = self;
-        next.used = 0;
-        next.tick = tick;
-        next
-    }
-
-    // The targets of a subject, from the cache or by a walk of the standing table, whose list is then kept.
-    // 1 to 9, 17, 18, 19 on the counts; then a hit (21) or a walk (19, 21).
-    // Only the heads change on a hit; a refusal changes nothing.
-    pub fn resolve(
-        self,
-        heads: &mut [u64],
-        keys: &mut [u8],
-        kept: &mut [u32],
-        snapshot: Snapshot,
-        area: &[u32],
-        subject: &[u8],
-        out: &mut [u32],
-    ) -> Resolved
-        ensures { λ r. ⌜
-            left r (lent (now (heads .exit)) (now (keys .exit)) (now (kept .exit))) (now (out .exit))
-            ≡ resolve self (lent (now (heads .entry)) (now (keys .entry)) (now (kept .entry)))
-            snapshot (now (area .entry)) (now (subject .entry)) (now (out .entry)) ⌝ }
-    {
-        match decide(self, heads, keys, kept, snapshot, area, subject, out) {
-            Decision::Refuse(answer) => refuse(self, answer),
-            Decision::Hit { slot, count } => show(self, heads, snapshot, slot, count),
-            Decision::Walk => walk(self, heads, keys, kept, snapshot, area, subject, out),
-        }
+// The targets of a subject, from the cache or by a walk of the standing table, whose list is then kept.
+// 1 to 9, 17, 18, 19 on the counts; then a hit (21) or a walk (19, 21).
+// Only the heads change on a hit; a refusal changes nothing.
+pub fn resolve(
+    cache: ResolveCache,
+    heads: &mut [u64],
+    keys: &mut [u8],
+    kept: &mut [u32],
+    snapshot: Snapshot,
+    area: &[u32],
+    subject: &[u8],
+    out: &mut [u32],
+) -> Resolved
+    ensures { λ r. ⌜
+        left r (lent (now (heads .exit)) (now (keys .exit)) (now (kept .exit))) (now (out .exit))
+        ≡ resolve cache (lent (now (heads .entry)) (now (keys .entry)) (now (kept .entry)))
+        snapshot (now (area .entry)) (now (subject .entry)) (now (out .entry)) ⌝ }
+{
+    match decide(cache, heads, keys, kept, snapshot, area, subject, out) {
+        Decision::Refuse(answer) => refuse(cache, answer),
+        Decision::Hit { slot, count } => show(cache, heads, snapshot, slot, count),
+        Decision::Walk => walk(cache, heads, keys, kept, snapshot, area, subject, out),
     }
 }
 
@@ -220,29 +123,6 @@ fn part<'a>(words: &'a [u32], from: usize, count: usize) -> &'a [u32]
     }
     let end = from + count;
     &words[from..end]
-}
-
-fn at_least_one(capacity: usize) -> usize
-    ensures { λ r. ⌜ r ≡ max 1 capacity ⌝ }
-{
-    if capacity == 0 { 1 } else { capacity }
-}
-
-// 17: capacity over 1,024, or a list that is too short for so many slots.
-fn is_short(capacity: usize, heads: &[u64], keys: &[u8], kept: &[u32]) -> bool
-    ensures { λ r. ⌜
-        r ≡ short capacity (lent (now (heads .entry)) (now (keys .entry)) (now (kept .entry))) ⌝ }
-{
-    if ResolveCache::DEFAULT_CAPACITY < capacity {
-        return true;
-    }
-    if heads.len() < SLOT_NUMBERS * capacity {
-        return true;
-    }
-    if keys.len() < SLOT_BYTES * capacity {
-        return true;
-    }
-    kept.len() < SLOT_TARGETS * capacity
 }
 
 // A slot with a key over 256 bytes or over 16 targets.
@@ -710,7 +590,7 @@ fn decide(
     let Parsed::Accepted(_) = text else {
         return Decision::Refuse(refused(text));
     };
-    if is_short(cache.capacity, heads, keys, kept) {
+    if resolve_cache_rules::is_short(cache.capacity, heads, keys, kept) {
         return Decision::Refuse(ResolveAnswer::CacheShort);
     }
     if is_bad(cache, heads, keys, kept) {

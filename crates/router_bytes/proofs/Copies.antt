@@ -8,9 +8,9 @@ use native.Mathlib.Omega.{arith}
 use lib.Dec.{ltb}
 use lib.ListN.{length, take, drop}
 use lib.Seq.{take-at, drop-at}
-use Rattle.subject.specs.Answers.{Answer, answer}
+use Rattle.subject_rules.specs.Answers.{Answer, answer}
 use Rattle.sublist_entries.specs.Inserting.{afterAnswer}
-use Rattle.sublist_walk.specs.Matching.{Outcome, outcome, over, matchTable}
+use Rattle.sublist_walk_rules.specs.Matching.{Outcome, outcome, over, matchTable}
 use Rattle.router_words.specs.declared.CAnswer.{CAnswer}
 use Rattle.router_words.specs.Words.{numberOf, Says, Matches}
 use Rattle.router_bytes.specs.Bytes.{copyBytes, bytesOf, wordsIn, onBytes, matchBytes}

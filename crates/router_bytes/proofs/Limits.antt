@@ -6,12 +6,12 @@ use Prim.Native.Nat.{ℕ, _+_, _≤_, _<_}
 use native.Mathlib.Omega.{arith}
 use lib.ListN.{length}
 use borrow.Author.Tests.{lt-ltb, le-ltb}
-use Rattle.subject.specs.Answers.{answer}
-use Rattle.sublist_walk.specs.Matching.{outcome, matchTable}
+use Rattle.subject_rules.specs.Answers.{answer}
+use Rattle.sublist_walk_rules.specs.Matching.{outcome, matchTable}
 use Rattle.sublist_snapshot.specs.declared.Snapshot.{Snapshot}
-use Rattle.resolve_cache.specs.declared.ResolveCache.{ResolveCache}
-use Rattle.resolve_cache.specs.Area.{Area}
-use Rattle.resolve_cache.specs.Cache.{unchanged, resolve}
+use Rattle.resolve_cache_rules.specs.declared.ResolveCache.{ResolveCache}
+use Rattle.resolve_cache_rules.specs.Area.{Area}
+use Rattle.resolve_cache_rules.specs.Cache.{unchanged, resolve}
 use Rattle.router_bytes.specs.Bytes.{copyBytes, wordsIn, onBytes, matchBytes, inNumbers, inBytes, resolveBytes}
 
 module _ (n m : ℕ) (nodes targets subject out : List ℕ) where

@@ -7,18 +7,19 @@ use mathlib.Core.Option.{Option, none, some}
 use Prim.Native.Nat.{ℕ, zero, suc, _+_, _*_}
 use lib.Dec.{ltb}
 use lib.ListN.{length}
-use Rattle.subject.specs.Choice.{pick}
-use Rattle.subject.specs.Answers.{Answer, answer}
-use Rattle.subject.specs.Grammar.{grammar}
-use Rattle.sublist_walk.specs.Walk.{Walked, found, failed}
-use Rattle.sublist_walk.specs.Matching.{over}
+use Rattle.subject_rules.specs.Choice.{pick}
+use Rattle.subject_rules.specs.Answers.{Answer, answer}
+use Rattle.subject_rules.specs.Grammar.{grammar}
+use Rattle.sublist_walk_rules.specs.Walk.{Walked, found, failed}
+use Rattle.sublist_walk_rules.specs.Matching.{over}
 use Rattle.sublist_snapshot.specs.declared.Snapshot.{Snapshot}
 use Rattle.sublist_snapshot.specs.Snapshot.{standsIn, walkOf}
-use Rattle.resolve_cache.specs.declared.ResolveCache.{ResolveCache}
+use Rattle.resolve_cache_rules.specs.declared.ResolveCache.{ResolveCache}
 use Rattle.resolve_cache.specs.declared.Resolved.{Resolved as Returned}
-use Rattle.resolve_cache.specs.Area.{Area, targetCount, keep, touch}
-use Rattle.resolve_cache.specs.Cache.{short, bad, findFrom, place, adopt, ticked, hit, walked, grown, qualifies, Resolved, unchanged, missed, hitAt, miss, workBy, ifAccepted, resolve}
-use Rattle.resolve_cache.specs.Answers.{resolveAnswer, lent, left}
+use Rattle.resolve_cache_rules.specs.Area.{Area, targetCount, keep, touch}
+use Rattle.resolve_cache_rules.specs.Cache.{short, bad, findFrom, place, adopt, ticked, hit, walked, grown, qualifies, Resolved, unchanged, missed, hitAt, miss, workBy, ifAccepted, resolve}
+use Rattle.resolve_cache.specs.Answers.{resolveAnswer, left}
+use Rattle.resolve_cache_rules.specs.Answers.{lent}
 use Rattle.router_words.specs.declared.CAnswer.{CAnswer}
 use Rattle.router_words.specs.declared.CResolved.{CResolved}
 use Rattle.router_words.specs.Words.{numberOf, Says, answerIn, cacheIn, Resolves}

@@ -3,14 +3,14 @@ use Prim.Native.Nat.{ℕ, zero, suc, _+_, _*_, _/_, _%_}
 use mathlib.Core.List.{List, [], _∷_, _++_}
 use lib.Dec.{ltb}
 use lib.ListN.{length, take, drop}
-use Rattle.subject.specs.Choice.{pick}
-use Rattle.subject.specs.Answers.{Answer, answer}
+use Rattle.subject_rules.specs.Choice.{pick}
+use Rattle.subject_rules.specs.Answers.{Answer, answer}
 use Rattle.sublist_entries.specs.Inserting.{afterAnswer}
-use Rattle.sublist_walk.specs.Matching.{Outcome, outcome, over, matchTable}
+use Rattle.sublist_walk_rules.specs.Matching.{Outcome, outcome, over, matchTable}
 use Rattle.sublist_snapshot.specs.declared.Snapshot.{Snapshot}
-use Rattle.resolve_cache.specs.declared.ResolveCache.{ResolveCache}
-use Rattle.resolve_cache.specs.Area.{Area}
-use Rattle.resolve_cache.specs.Cache.{Resolved, unchanged, resolve}
+use Rattle.resolve_cache_rules.specs.declared.ResolveCache.{ResolveCache}
+use Rattle.resolve_cache_rules.specs.Area.{Area}
+use Rattle.resolve_cache_rules.specs.Cache.{Resolved, unchanged, resolve}
 
 -- "for the sizes that 64 KiB of copies hold"
 abbrev pub copyBytes : ℕ

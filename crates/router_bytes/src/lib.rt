@@ -1,5 +1,5 @@
 // The match and the resolve on areas of bytes: their numbers are copied, and an accepted call's are written back.
-use resolve_cache::ResolveCache;
+use resolve_cache_rules::ResolveCache;
 use router_words::CAnswer;
 use router_words::CResolved;
 use sublist_snapshot::Snapshot;
@@ -10,9 +10,10 @@ ghost use Prim.Native.Nat.{_+_, _*_, _/_, _%_, _≤_};
 ghost use lib.Dec.{ltb};
 ghost use lib.ListN.{length, take, drop};
 ghost use Rattle.sublist_tree.specs.Lists.{put};
-ghost use Rattle.sublist_walk.specs.Matching.{outcome, over, matchAnswer, matchTable};
-ghost use Rattle.resolve_cache.specs.Cache.{resolve};
-ghost use Rattle.resolve_cache.specs.Answers.{lent};
+ghost use Rattle.sublist_walk_rules.specs.Matching.{outcome, over, matchTable};
+ghost use Rattle.sublist_walk.specs.Answers.{matchAnswer};
+ghost use Rattle.resolve_cache_rules.specs.Cache.{resolve};
+ghost use Rattle.resolve_cache_rules.specs.Answers.{lent};
 ghost use Rattle.router_words.specs.Words.{Matches, Resolves};
 ghost use Rattle.router_bytes.specs.Bytes.{copyBytes, spelled, spelling, bytesOf, wordsIn, longsIn};
 ghost use Rattle.router_bytes.specs.Bytes.{onBytes, matchBytes, inNumbers, inBytes, resolveBytes};
@@ -316,7 +317,8 @@ fn resolve_copied(
         snapshot (now («area_words» .entry)) (now (subject .entry)) (now («out_words» .entry)))
         (lent (now (heads .entry)) (now (keys .entry)) (now (kept .entry))) (now (out .entry))) ⌝ }
 {
-    let resolved = cache.resolve(
+    let resolved = resolve_cache::resolve(
+        cache,
         longs,
         keys,
         kept_words,

@@ -2,22 +2,22 @@
 use mathlib.Core.Path.{_≡_, refl, subst}
 use mathlib.Core.List.{List}
 use Prim.Native.Nat.{ℕ}
-use Rattle.subject.specs.Answers.{Answer}
+use Rattle.subject_rules.specs.Answers.{Answer}
 use Rattle.sublist_entries.specs.declared.Inserted.{Inserted}
 use Rattle.sublist_entries.specs.Inserting.{InsertOutcome}
 use Rattle.sublist_entries.specs.Answers.{insertAnswer, inserted}
 use Rattle.sublist.specs.declared.Built.{Built}
-use Rattle.sublist.specs.Leaving.{BuildOutcome}
+use Rattle.sublist_rules.specs.Leaving.{BuildOutcome}
 use Rattle.sublist.specs.Answers.{buildAnswer, built}
 use Rattle.sublist_snapshot.specs.declared.Snapshot.{Snapshot}
 use Rattle.sublist_snapshot.specs.declared.MadeSnapshot.{MadeSnapshot}
 use Rattle.sublist_snapshot.specs.declared.Stored.{Stored as StoreReturned}
 use Rattle.sublist_snapshot.specs.Snapshot.{Made, Stored}
 use Rattle.sublist_snapshot.specs.Answers.{madeAnswer, storeAnswer, made, leftStored}
-use Rattle.resolve_cache.specs.declared.ResolveCache.{ResolveCache}
+use Rattle.resolve_cache_rules.specs.declared.ResolveCache.{ResolveCache}
 use Rattle.resolve_cache.specs.declared.Resolved.{Resolved as Returned}
-use Rattle.resolve_cache.specs.Area.{Area}
-use Rattle.resolve_cache.specs.Cache.{Resolved}
+use Rattle.resolve_cache_rules.specs.Area.{Area}
+use Rattle.resolve_cache_rules.specs.Cache.{Resolved}
 use Rattle.resolve_cache.specs.Answers.{resolveAnswer, left}
 use Rattle.binding.specs.declared.SingleHome.{SingleHome}
 use Rattle.binding.specs.declared.CachedResolution.{CachedResolution}

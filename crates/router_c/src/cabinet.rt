@@ -1,5 +1,5 @@
 // What a cabinet keeps, lent and given back as numbers: the snapshot of its table, and the cache of what it resolved.
-use resolve_cache::ResolveCache;
+use resolve_cache_rules::ResolveCache;
 use router_words::CAnswer;
 use router_words::CCache;
 use router_words::CMadeCache;
@@ -14,8 +14,8 @@ use sublist_snapshot::Sublist;
 ghost use mathlib.Core.Path.{_≡_};
 ghost use mathlib.Core.List.{[]};
 ghost use Rattle.sublist_snapshot.specs.Snapshot.{make, makeEmpty, storeIn, matchIn};
-ghost use Rattle.resolve_cache.specs.Cache.{withCapacity, clear, resolve};
-ghost use Rattle.resolve_cache.specs.Answers.{lent};
+ghost use Rattle.resolve_cache_rules.specs.Cache.{withCapacity, clear, resolve};
+ghost use Rattle.resolve_cache_rules.specs.Answers.{lent};
 ghost use Rattle.binding.specs.Verdict.{singleHome, resolveSingleHome, resolveSingleHomeCached};
 ghost use Rattle.router_words.specs.Words.{Says, Matches, tableOf, snapshotOf, cacheOf, SaysMadeCache, verdictAnswer};
 ghost use Rattle.router_words.specs.Words.{Makes, Stores, Resolves, Judges, JudgesCached};
@@ -137,7 +137,8 @@ pub extern "C" fn router_resolve(
 {
     let own = router_words::from_c_cache(cache);
     let standing = router_words::from_c_snapshot(snapshot);
-    router_words::to_c_resolved(own.resolve(heads, keys, kept, standing, area, subject, out))
+    let resolved = resolve_cache::resolve(own, heads, keys, kept, standing, area, subject, out);
+    router_words::to_c_resolved(resolved)
 }
 
 // The resolve on areas of bytes, lowest byte of a number first; whole numbers count.

@@ -2,7 +2,7 @@
 use router_words::CAnswer;
 use sublist_entries::ListState;
 ghost use Rattle.sublist_entries.specs.Numbers.{entriesIn, insertNumbers};
-ghost use Rattle.sublist.specs.Leaving.{buildInto};
+ghost use Rattle.sublist_rules.specs.Leaving.{buildInto};
 ghost use Rattle.router_words.specs.Words.{listOf, Inserts, Builds};
 
 // A pattern and its target join a list. The answer has the entries and bytes in use afterwards.

@@ -1,6 +1,6 @@
 // Matches on a lent table, its words lent as words or as bytes.
 use router_words::CAnswer;
-ghost use Rattle.sublist_walk.specs.Matching.{matchTable};
+ghost use Rattle.sublist_walk_rules.specs.Matching.{matchTable};
 ghost use Rattle.router_words.specs.Words.{Matches};
 ghost use Rattle.router_bytes.specs.Bytes.{matchBytes};
 

@@ -3,12 +3,12 @@ use router_words::CAnswer;
 ghost use mathlib.Core.Path.{_≡_};
 ghost use mathlib.Core.Bool.{true, false};
 ghost use lib.ListN.{length};
-ghost use Rattle.subject.specs.Text.{tokens, endsInTail};
+ghost use Rattle.subject_rules.specs.Text.{tokens, endsInTail};
 ghost use Rattle.subject.specs.Reading.{placeIn};
 ghost use Rattle.subject.specs.Answers.{placed};
-ghost use Rattle.subject.specs.Grammar.{grammar};
-ghost use Rattle.subject.specs.Matching.{matching};
-ghost use Rattle.subject.specs.Fnv.{fnv};
+ghost use Rattle.subject_rules.specs.Grammar.{grammar};
+ghost use Rattle.subject_rules.specs.Matching.{matching};
+ghost use Rattle.subject_rules.specs.Fnv.{fnv};
 ghost use Rattle.router_words.specs.Words.{Says, bit};
 
 // A text as a literal subject: its token count, or why it is refused.

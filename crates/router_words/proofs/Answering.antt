@@ -4,10 +4,11 @@ use mathlib.Core.List.{List}
 use Prim.Native.Nat.{ℕ}
 use Rattle.subject.specs.declared.SubjectError.{SubjectError}
 use Rattle.subject.specs.declared.SubjectError.the-variants.{TooLong, NotUtf8, Empty, TailWildcardNotLast, TooDeep, EmptyToken, WildcardNotAllowed, ControlChar, IllegalChar}
-use Rattle.subject.specs.Answers.{Answer, answer, refusal}
-use Rattle.sublist.specs.Building.{held}
-use Rattle.sublist_walk.specs.Matching.{Outcome, outcome}
-use Rattle.resolve_cache.specs.declared.ResolveCache.{ResolveCache}
+use Rattle.subject_rules.specs.Answers.{Answer, answer}
+use Rattle.subject.specs.Answers.{refusal}
+use Rattle.sublist_rules.specs.Building.{held}
+use Rattle.sublist_walk_rules.specs.Matching.{Outcome, outcome}
+use Rattle.resolve_cache_rules.specs.declared.ResolveCache.{ResolveCache}
 use Rattle.router_words.specs.declared.CAnswer.{CAnswer}
 use Rattle.router_words.specs.declared.CResolved.{CResolved}
 use Rattle.router_words.specs.Words.{numberOf, valueOf, Says, Matches, answerIn, cacheIn}

@@ -7,7 +7,7 @@ use mathlib.Core.List.{List, [], _∷_}
 use lib.Dec.{leb}
 use lib.ListN.{length, getD, take, drop, length-take, length-drop}
 use borrow.Author.Tests.{le-leb, lt-leb, leb-true, leb-false}
-use Rattle.subject.specs.Text.{tokens}
+use Rattle.subject_rules.specs.Text.{tokens}
 use Rattle.subject.specs.Reading.{dotFrom, tokensFrom, tokenAt, past, placeIn}
 use Rattle.subject.specs.declared.Token.{Token}
 use Rattle.subject.specs.declared.Token.the-variants.{Part, End}

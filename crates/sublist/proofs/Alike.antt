@@ -5,14 +5,14 @@ use mathlib.Core.Bool.{Bool, true, false, not}
 use mathlib.Core.List.{List, [], _∷_}
 use borrow.Author.Tests.{eq-eqb}
 use lib.Dec.{eqb}
-use Rattle.subject.specs.Choice.{pick, and, or}
-use Rattle.subject.specs.Text.{isStar, isTail, same}
+use Rattle.subject_rules.specs.Choice.{pick, and, or}
+use Rattle.subject_rules.specs.Text.{isStar, isTail, same}
 use Rattle.subject.specs.Reading.{tokensFrom}
-use Rattle.subject.specs.Fnv.{fnv}
+use Rattle.subject_rules.specs.Fnv.{fnv}
 use Rattle.subject.proofs.Positions.{tokens-start}
 use Rattle.sublist_tree.specs.Tree.{Key, star, lit, Line, line, onto, lineOf, keyIs, keysOf}
 use Rattle.sublist_tree.proofs.Bytes.{same-sound}
-use Rattle.sublist_area.specs.Words.{tokenKey}
+use Rattle.sublist_area_rules.specs.Words.{tokenKey}
 use Rattle.sublist.specs.Sharing.{shared, keysIn, sameKey, sharedBy}
 
 -- the tests of two tokens, in order

@@ -11,17 +11,19 @@ use Rattle.subject.specs.declared.SubjectError.{SubjectError}
 use Rattle.subject.specs.declared.SubjectError.the-variants.{TooLong, NotUtf8, Empty, TailWildcardNotLast, TooDeep, EmptyToken, WildcardNotAllowed, ControlChar, IllegalChar}
 use Rattle.subject.specs.declared.Parsed.{Parsed}
 use Rattle.subject.specs.declared.Parsed.the-variants.{Accepted}
-use Rattle.subject.specs.Choice.{pick}
-use Rattle.subject.specs.Answers.{Answer, answer, refusal, parsed}
-use Rattle.subject.specs.Grammar.{grammar, firstOf}
+use Rattle.subject_rules.specs.Choice.{pick}
+use Rattle.subject_rules.specs.Answers.{Answer, answer}
+use Rattle.subject.specs.Answers.{refusal, parsed}
+use Rattle.subject_rules.specs.Grammar.{grammar, firstOf}
 use Rattle.sublist.specs.declared.SublistError.{SublistError}
 use Rattle.sublist.specs.declared.EntryCheck.{EntryCheck}
 use Rattle.sublist.specs.declared.EntryCheck.the-variants.{Sound, Bad}
-use Rattle.sublist.specs.Building.{held}
-use Rattle.sublist.specs.Building.{invalid, badEntry, badEntries}
+use Rattle.sublist_rules.specs.Building.{held}
+use Rattle.sublist_rules.specs.Building.{invalid, badEntry, badEntries}
 use Rattle.sublist_entries.specs.Numbers.{unflat}
-use Rattle.sublist.specs.Core.{checked, placeOf}
-use Rattle.sublist.proofs.AcceptedEntries.{first-none}
+use Rattle.sublist.specs.Told.{checked}
+use Rattle.sublist_rules.specs.Core.{placeOf}
+use Rattle.sublist_rules.proofs.AcceptedEntries.{first-none}
 use Rattle.sublist.proofs.Listed.{unflat-on, unflat-end}
 
 pub invalid-refused : (e : SubjectError) → some (held (refusal e)) ≡ invalid (refusal e)

@@ -8,20 +8,21 @@ use mathlib.Core.Bool.{Bool, true, false}
 use mathlib.Core.List.{List, [], _∷_, _++_}
 use lib.ListN.{length, getD, take, drop, set}
 use lib.Seq.{getD-set-same, getD-set-other}
-use Rattle.subject.specs.Choice.{pick}
-use Rattle.subject.specs.Text.{tokens, isTail}
-use Rattle.subject.specs.Fnv.{fnv}
+use Rattle.subject_rules.specs.Choice.{pick}
+use Rattle.subject_rules.specs.Text.{tokens, isTail}
+use Rattle.subject_rules.specs.Fnv.{fnv}
 use Rattle.sublist_tree.specs.Tree.{Key, Line, line, onto, lineOf}
-use Rattle.sublist_area.specs.declared.Placed.{Placed}
-use Rattle.sublist_area.specs.declared.Placed.the-variants.{At, Full, Broken}
-use Rattle.sublist_area.specs.Words.{tokenKey}
-use Rattle.sublist_area.specs.Growing.{grown}
+use Rattle.sublist_area_rules.specs.declared.Placed.{Placed}
+use Rattle.sublist_area_rules.specs.declared.Placed.the-variants.{At, Full, Broken}
+use Rattle.sublist_area_rules.specs.Words.{tokenKey}
+use Rattle.sublist_area_rules.specs.Growing.{grown}
 use Rattle.sublist.specs.declared.Ended.{Ended}
 use Rattle.sublist.specs.declared.Ended.the-variants as ended
 use Rattle.sublist_entries.specs.Entries.{linesOf}
-use Rattle.sublist.specs.Passes.{End, end, Growth, growth, stopped, counted, joined, lineIn, linesIn}
+use Rattle.sublist_rules.specs.Passes.{End, end, Growth, growth, stopped, counted, joined, lineIn, linesIn}
 use Rattle.sublist_entries.specs.Numbers.{unflat}
-use Rattle.sublist.specs.Core.{reached, runIn, endedAs, endOf, endsOf, EndBelow}
+use Rattle.sublist_rules.specs.Core.{reached, runIn, endOf, endsOf, EndBelow}
+use Rattle.sublist.specs.Told.{endedAs}
 use Rattle.sublist.proofs.Listed.{unflat-on, unflat-end}
 
 -- the end of a run counts it

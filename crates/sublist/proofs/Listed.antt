@@ -8,14 +8,14 @@ use mathlib.Core.List.{List, [], _∷_}
 use lib.ListN.{length, getD, drop}
 use lib.Seq.{drop-cons}
 use borrow.Author.Tests.{eq-eqb, ne-eqb}
-use Rattle.subject.specs.Text.{isStar}
-use Rattle.subject.specs.Fnv.{fnv}
+use Rattle.subject_rules.specs.Text.{isStar}
+use Rattle.subject_rules.specs.Fnv.{fnv}
 use Rattle.sublist_tree.specs.Tree.{star, lit}
-use Rattle.sublist.specs.Passes.{end}
+use Rattle.sublist_rules.specs.Passes.{end}
 use Rattle.sublist_entries.specs.Numbers.{unflat}
 use Rattle.sublist_entries.proofs.Unflat.{entryAt}
-use Rattle.sublist_area.specs.Words.{tokenKey}
-use Rattle.sublist.specs.Core.{endOf, endsOf}
+use Rattle.sublist_area_rules.specs.Words.{tokenKey}
+use Rattle.sublist_rules.specs.Core.{endOf, endsOf}
 
 left-on : (i n : ℕ) → i < n → n - i ≡ suc (n - (i + 1))
 left-on i n h = omega arith

@@ -7,7 +7,7 @@ use mathlib.Core.List.{List, [], _∷_, _++_, map, append-assoc, append-nil}
 use borrow.Author.Tests.{le-leb, lt-leb, leb-true, leb-false}
 use lib.Dec.{leb, leb·suc-suc, leb·suc-zero, leb·zero}
 use lib.ListN.{length, length-map, length-append}
-use Rattle.subject.specs.Choice.{pick, and, or}
+use Rattle.subject_rules.specs.Choice.{pick, and, or}
 use Rattle.sublist_tree.specs.Lists.{largest, filter, without, distinct, prefixes, All}
 use Rattle.sublist_tree.specs.Tree.{Key, star, lit, Line, line, keyIs, runIs, keysOf}
 use Rattle.sublist_tree.specs.Nodes.{runs, nodes}

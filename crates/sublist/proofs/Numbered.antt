@@ -5,9 +5,9 @@ use Prim.Native.Nat.{ℕ, _/_}
 use lib.ListN.{length}
 use Rattle.sublist_entries.specs.Numbers.{entryNumbers, entriesIn}
 use Rattle.sublist_entries.proofs.Numbered.{in-length}
-use Rattle.sublist.specs.Leaving.{buildInto}
-use Rattle.sublist.specs.Core.{coreInto}
-use Rattle.sublist.proofs.Composed.{core-builds}
+use Rattle.sublist_rules.specs.Leaving.{buildInto}
+use Rattle.sublist_rules.specs.Core.{coreInto}
+use Rattle.sublist_rules.proofs.Composed.{core-builds}
 
 pub numbers-build : (ws store a ts : List ℕ) (generation : ℕ) → coreInto (length ws / entryNumbers) (entriesIn ws) store a ts generation ≡ buildInto (entriesIn ws) store a ts generation
 numbers-build ws store a ts generation =

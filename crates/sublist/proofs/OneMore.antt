@@ -7,10 +7,10 @@ use mathlib.Core.List.{List, [], _∷_, _++_, map}
 use mathlib.Core.Option.{none}
 use lib.Dec.{eqb}
 use lib.ListN.{length, getD, take, drop}
-use Rattle.subject.specs.Choice.{pick}
-use Rattle.subject.specs.Text.{tokens, isTail}
-use Rattle.subject.specs.Fnv.{fnv}
-use Rattle.subject.proofs.Depths.{accepted-depth}
+use Rattle.subject_rules.specs.Choice.{pick}
+use Rattle.subject_rules.specs.Text.{tokens, isTail}
+use Rattle.subject_rules.specs.Fnv.{fnv}
+use Rattle.subject_rules.proofs.Depths.{accepted-depth}
 use Rattle.sublist_tree.specs.Lists.{largest}
 use Rattle.sublist_tree.specs.Tree.{Line, line, onto, lineOf, keysOf}
 use Rattle.sublist_tree.specs.Nodes.{nodes}
@@ -18,11 +18,11 @@ use Rattle.sublist_tree.proofs.Sorting.{map-append}
 use Rattle.sublist_tree.proofs.Bytes.{eqb-whole}
 use Rattle.sublist_entries.specs.declared.Entry.{Entry}
 use Rattle.sublist_entries.specs.Entries.{textOf, linesOf, targetWord}
-use Rattle.sublist.specs.Building.{badEntries, needed}
-use Rattle.sublist_area.specs.Words.{tokenKey}
+use Rattle.sublist_rules.specs.Building.{badEntries, needed}
+use Rattle.sublist_area_rules.specs.Words.{tokenKey}
 use Rattle.sublist.specs.Sharing.{EntryWithin, shared, keysIn, sharedBy, longest}
 use Rattle.sublist_entries.specs.Numbers.{unflat}
-use Rattle.sublist.proofs.AcceptedEntries.{Sound, sound-entries}
+use Rattle.sublist_rules.proofs.AcceptedEntries.{Sound, sound-entries}
 use Rattle.sublist_entries.proofs.Unflat.{entryAt, unflat-more, unflat-at}
 use Rattle.sublist.proofs.Needed.{longestRun, longest-most, shared-self, nodes-more}
 

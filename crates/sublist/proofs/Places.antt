@@ -7,14 +7,14 @@ use borrow.Author.Tests.{leb-false}
 use lib.Dec.{eqb, leb}
 use lib.ListN.{length, getD}
 use Rattle.sublist_tree.specs.Tree.{Key, star, lit}
-use Rattle.sublist_area.specs.declared.Child.{Child}
-use Rattle.sublist_area.specs.declared.Child.the-variants.{Node, Missing, Damaged}
-use Rattle.sublist_area.specs.declared.Placed.{Placed}
-use Rattle.sublist_area.specs.declared.Placed.the-variants.{At, Full, Broken}
-use Rattle.sublist_area.specs.Words.{Met, word, byHash, outside, seek, literalChild, starChild, childOf}
-use Rattle.sublist_area.specs.Growing.{placed, childOrNew}
+use Rattle.sublist_area_rules.specs.declared.Child.{Child}
+use Rattle.sublist_area_rules.specs.declared.Child.the-variants.{Node, Missing, Damaged}
+use Rattle.sublist_area_rules.specs.declared.Placed.{Placed}
+use Rattle.sublist_area_rules.specs.declared.Placed.the-variants.{At, Full, Broken}
+use Rattle.sublist_area_rules.specs.Words.{Met, word, byHash, outside, seek, literalChild, starChild, childOf}
+use Rattle.sublist_area_rules.specs.Growing.{placed, childOrNew}
 use Rattle.sublist_trie.proofs.Runs.{pick-ind}
-use Rattle.sublist_area.proofs.Turns.{met-ind}
+use Rattle.sublist_area_rules.proofs.Turns.{met-ind}
 
 abbrev NodeBelow : ℕ → Child → Type 0
 NodeBelow n (Node j) = j < n

@@ -3,15 +3,15 @@ use Prim.Native.Nat.{ℕ}
 use mathlib.Core.Path.{_≡_, refl, sym, _∙_}
 use mathlib.Core.Bool.{Bool, true, false}
 use mathlib.Core.List.{List, [], _∷_}
-use Rattle.subject.specs.Text.{isTail}
-use Rattle.subject.specs.Fnv.{fnv}
+use Rattle.subject_rules.specs.Text.{isTail}
+use Rattle.subject_rules.specs.Fnv.{fnv}
 use Rattle.sublist_tree.specs.Tree.{Key, Line, line, onto, lineOf}
-use Rattle.sublist_area.specs.declared.Placed.{Placed}
-use Rattle.sublist_area.specs.declared.Placed.the-variants.{At, Full, Broken}
-use Rattle.sublist_area.specs.Growing.{childOrNew, onward, grown}
-use Rattle.sublist.specs.Passes.{end, Growth, growth, stopped}
-use Rattle.sublist_area.specs.Words.{tokenKey}
-use Rattle.sublist.specs.Core.{runIn}
+use Rattle.sublist_area_rules.specs.declared.Placed.{Placed}
+use Rattle.sublist_area_rules.specs.declared.Placed.the-variants.{At, Full, Broken}
+use Rattle.sublist_area_rules.specs.Growing.{childOrNew, onward, grown}
+use Rattle.sublist_rules.specs.Passes.{end, Growth, growth, stopped}
+use Rattle.sublist_area_rules.specs.Words.{tokenKey}
+use Rattle.sublist_rules.specs.Core.{runIn}
 
 full-stays : (a : List ℕ) (ks : List (Key ℕ)) → grown (Full, a) ks ≡ (Full, a)
 unfolding grown onward

@@ -7,21 +7,22 @@ use mathlib.Core.List.{List, [], _∷_}
 use borrow.Author.Tests.{lt-ltb, le-ltb, ltb-true, ltb-false}
 use lib.Dec.{ltb}
 use lib.ListN.{length}
-use Rattle.subject.specs.Choice.{pick}
-use Rattle.subject.specs.Answers.{Answer, answer}
-use Rattle.sublist_area.specs.declared.Placed.{Placed}
-use Rattle.sublist_area.specs.declared.Placed.the-variants.{At, Full, Broken}
-use Rattle.sublist_area.specs.Growing.{planted, rooted}
+use Rattle.subject_rules.specs.Choice.{pick}
+use Rattle.subject_rules.specs.Answers.{Answer, answer}
+use Rattle.sublist_area_rules.specs.declared.Placed.{Placed}
+use Rattle.sublist_area_rules.specs.declared.Placed.the-variants.{At, Full, Broken}
+use Rattle.sublist_area_rules.specs.Growing.{planted, rooted}
 use Rattle.sublist_entries.specs.declared.Entry.{Entry}
 use Rattle.sublist.specs.declared.SublistError.{SublistError}
 use Rattle.sublist.specs.declared.EntryCheck.{EntryCheck}
 use Rattle.sublist.specs.declared.EntryCheck.the-variants.{Sound, Bad}
 use Rattle.sublist.specs.Answers.{buildRefusal}
 use Rattle.sublist_entries.specs.Entries.{linesOf}
-use Rattle.sublist.specs.Building.{badEntries, needed, overLimit}
-use Rattle.sublist.specs.Passes.{End, Growth, growth, stopped, linesIn, settled, laid, Filling, filling, filled}
-use Rattle.sublist.specs.Leaving.{BuildOutcome}
-use Rattle.sublist.specs.Core.{checked, allIn, rootWorst, targetsOf, finishBy, builtBy, leavesBy, coreInto}
+use Rattle.sublist_rules.specs.Building.{badEntries, needed, overLimit}
+use Rattle.sublist_rules.specs.Passes.{End, Growth, growth, stopped, linesIn, settled, laid, Filling, filling, filled}
+use Rattle.sublist_rules.specs.Leaving.{BuildOutcome}
+use Rattle.sublist.specs.Told.{checked}
+use Rattle.sublist_rules.specs.Core.{allIn, rootWorst, targetsOf, finishBy, builtBy, leavesBy, coreInto}
 
 -- the root is written where there is room for it
 module _ (a : List ℕ) (r : Placed) (b : List ℕ) (e : (r, b) ≡ rooted a) where
@@ -55,16 +56,6 @@ module _ (es : List Entry) (store a : List ℕ) where
 
   pub grow-short : length a < 16 → stopped a ≡ allIn es store a
   grow-short h = rw (lt-ltb (length a) 16 h)
-
--- 16 by the worst case
-pub over : (w : ℕ) → 1024 < w → overLimit w ≡ true
-over w l = lt-ltb 1024 w l
-
-pub within : (w : ℕ) → w ≤ 1024 → overLimit w ≡ false
-within w l = le-ltb 1024 w l
-
-pub not-over : (w : ℕ) → overLimit w ≡ false → w ≤ 1024
-not-over w e = ltb-false 1024 w e
 
 -- behind the first pass
 module _ (count need generation n : ℕ) (a xs ts : List ℕ) (ends : List End) where

@@ -6,10 +6,10 @@ use mathlib.Core.Path.{_≡_, sym, _∙_}
 use mathlib.Core.List.{List}
 use lib.ListN.{length, getD, drop, set}
 use borrow.Author.Tests.{lt-ltb, le-ltb, eq-eqb, ne-eqb}
-use Rattle.sublist_area.specs.Words.{word}
-use Rattle.sublist.specs.Passes.{nodeWorst, told, settled, laidAt, laid, Filling, filledBy, filled}
+use Rattle.sublist_area_rules.specs.Words.{word}
+use Rattle.sublist_rules.specs.Passes.{nodeWorst, told, settled, laidAt, laid, Filling, filledBy, filled}
 use Rattle.sublist_entries.specs.Numbers.{unflat}
-use Rattle.sublist.specs.Core.{endOf, endsOf, targetsOf}
+use Rattle.sublist_rules.specs.Core.{endOf, endsOf, targetsOf}
 use Rattle.sublist.proofs.Listed.{unflat-on, ends-on, ends-end}
 
 -- node i tells its parent

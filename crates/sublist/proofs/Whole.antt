@@ -11,13 +11,13 @@ use borrow.Author.Tests.{ltb-false}
 use Rattle.sublist_entries.specs.declared.Entry.{Entry}
 use Rattle.sublist.specs.declared.Built.{Built}
 use Rattle.sublist.specs.Answers.{built}
-use Rattle.sublist.specs.Building.{buildSays}
-use Rattle.sublist.specs.Leaving.{buildLeaves, buildInto}
+use Rattle.sublist_rules.specs.Building.{buildSays}
+use Rattle.sublist_rules.specs.Leaving.{buildLeaves, buildInto}
 use Rattle.sublist.specs.Flat.{flat}
 use Rattle.sublist_entries.specs.Numbers.{unflat}
-use Rattle.sublist.specs.Core.{builtBy, leavesBy, coreInto}
+use Rattle.sublist_rules.specs.Core.{builtBy, leavesBy, coreInto}
 use Rattle.sublist.proofs.Filled.{unflat-flat}
-use Rattle.sublist.proofs.Composed.{core-builds}
+use Rattle.sublist_rules.proofs.Composed.{core-builds}
 
 -- all entries are had again
 all-again : (ys : List Entry) (ws rest : List ℕ) → length ys ≤ 2048 → ws ≡ flat (take (min (length ys) 2048) ys) ++ rest → unflat (length ys) ws ≡ ys

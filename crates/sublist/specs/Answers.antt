@@ -1,15 +1,16 @@
 -- 01's numbers and values for the answers of a build.
 use Prim.Native.Nat.{ℕ}
 use mathlib.Core.List.{List, [], _∷_}
-use Rattle.subject.specs.Answers.{Answer, answer, refusal}
+use Rattle.subject_rules.specs.Answers.{Answer, answer}
+use Rattle.subject.specs.Answers.{refusal}
 use Rattle.sublist.specs.declared.SublistError.{SublistError}
 use Rattle.sublist.specs.declared.SublistError.the-variants.{EntriesFull, BadEntry, InvalidPattern}
 use Rattle.sublist.specs.declared.SublistError.the-variants.{NodesFull, TargetsFull, ForkLimitExceeded}
 use Rattle.sublist.specs.declared.Built.{Built}
 use Rattle.sublist.specs.declared.Built.the-variants.{Table, Refused}
-use Rattle.sublist.specs.Building.{held}
-use Rattle.sublist.specs.Passes.{filling}
-use Rattle.sublist.specs.Leaving.{BuildOutcome}
+use Rattle.sublist_rules.specs.Building.{held}
+use Rattle.sublist_rules.specs.Passes.{filling}
+use Rattle.sublist_rules.specs.Leaving.{BuildOutcome}
 
 -- 10, 12 to 16
 abbrev pub buildRefusal : SublistError → Answer

@@ -4,12 +4,12 @@ use mathlib.Core.Bool.{Bool, not}
 use mathlib.Core.List.{List, [], _∷_, map}
 use lib.Dec.{eqb}
 use lib.ListN.{length, getD}
-use Rattle.subject.specs.Choice.{pick, and, or}
-use Rattle.subject.specs.Text.{tokens, isTail}
-use Rattle.subject.specs.Fnv.{fnv}
+use Rattle.subject_rules.specs.Choice.{pick, and, or}
+use Rattle.subject_rules.specs.Text.{tokens, isTail}
+use Rattle.subject_rules.specs.Fnv.{fnv}
 use Rattle.sublist_tree.specs.Lists.{largest}
 use Rattle.sublist_tree.specs.Tree.{Key, lineOf, keyIs, keysOf}
-use Rattle.sublist_area.specs.Words.{tokenKey}
+use Rattle.sublist_area_rules.specs.Words.{tokenKey}
 use Rattle.sublist_entries.specs.declared.Entry.{Entry}
 use Rattle.sublist_entries.specs.Entries.{textOf}
 

@@ -1,10 +1,12 @@
-// The nodes of a table in a lent area of words: looking up a child, making one. specs/Words.antt lists a node's words.
+// The nodes of a table in a lent area of words: looking up a child, making one.
 ghost use mathlib.Core.Path.{_≡_};
 ghost use Prim.Native.Nat.{ℕ, _+_, _*_, _/_, _<_, _≤_, _^_};
 ghost use lib.ListN.{length};
 ghost use Rattle.sublist_tree.specs.Tree.{star, lit};
-ghost use Rattle.sublist_area.specs.Words.{nodeWords, hashIs, byHash, seek, literalChild, starChild};
-ghost use Rattle.sublist_area.specs.Growing.{added, placed, childOrNew, rooted};
+ghost use Rattle.sublist_area_rules.specs.Words.{nodeWords, hashIs, byHash, seek, literalChild, starChild};
+ghost use Rattle.sublist_area_rules.specs.Growing.{cleared, added, placed, childOrNew, rooted};
+use sublist_area_rules::Child;
+use sublist_area_rules::Placed;
 
 // The words that a node takes.
 pub const NODE_WORDS: usize = 16;
@@ -14,20 +16,6 @@ const MAX_NODES: usize = 4294967295;
 
 // How many values a word has.
 const WORD: u64 = 4294967296;
-
-// A child by its number; or the word where its number would stand; or an area that makes no sense.
-pub enum Child {
-    Node(u32),
-    Missing(usize),
-    Damaged,
-}
-
-// A node and the node count afterwards; or no room for a new node; or an area that makes no sense.
-pub enum Placed {
-    At(u32, usize),
-    Full,
-    Broken,
-}
 
 fn wide(x: u32) -> usize
     ensures { λ r. ⌜ r ≡ x ⌝ }
@@ -110,6 +98,19 @@ pub fn star_child(node_words: &[u32], count: usize, node: u32) -> Child
     Child::Node(id)
 }
 
+// All words of a node become 0.
+fn clear_node(node_words: &mut [u32], node: usize)
+    requires { ⌜ node * nodeWords + nodeWords ≤ length (now «node_words») ⌝ }
+    ensures { λ _. ⌜ now («node_words» .exit) ≡ cleared (now («node_words» .entry)) node ⌝ }
+{
+    let at = node * NODE_WORDS;
+    let mut i = 0;
+    while i < NODE_WORDS {
+        node_words[at + i] = 0;
+        i += 1;
+    }
+}
+
 // Writes node `count` below a node, and its number into a word.
 fn add_node(node_words: &mut [u32], count: usize, link: usize, hash: u64, parent: u32)
     requires { ⌜
@@ -118,23 +119,11 @@ fn add_node(node_words: &mut [u32], count: usize, link: usize, hash: u64, parent
         × (count < 2 ^ 32) ⌝ }
     ensures { λ _. ⌜ now («node_words» .exit) ≡ added (now («node_words» .entry)) count link hash parent ⌝ }
 {
+    clear_node(node_words, count);
     let at = count * NODE_WORDS;
     node_words[at] = (hash % WORD) as u32;
     node_words[at + 1] = (hash / WORD) as u32;
-    node_words[at + 2] = 0;
-    node_words[at + 3] = 0;
-    node_words[at + 4] = 0;
-    node_words[at + 5] = 0;
-    node_words[at + 6] = 0;
-    node_words[at + 7] = 0;
-    node_words[at + 8] = 0;
-    node_words[at + 9] = 0;
-    node_words[at + 10] = 0;
-    node_words[at + 11] = 0;
     node_words[at + 12] = parent;
-    node_words[at + 13] = 0;
-    node_words[at + 14] = 0;
-    node_words[at + 15] = 0;
     node_words[link] = count as u32;
 }
 
@@ -145,11 +134,7 @@ pub fn plant(node_words: &mut [u32]) -> Placed
     if node_words.len() < NODE_WORDS {
         return Placed::Full;
     }
-    let mut i = 0;
-    while i < NODE_WORDS {
-        node_words[i] = 0;
-        i += 1;
-    }
+    clear_node(node_words, 0);
     Placed::At(0, 1)
 }
 

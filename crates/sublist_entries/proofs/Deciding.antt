@@ -5,21 +5,22 @@
 --   written, unwritten                            the list and the store afterwards are those of the outcome, whatever the list's form
 --   entry-written, entry-unwritten                so of a list of records
 use mathlib.Core.Path.{_≡_, refl, sym, _∙_, ap, subst}
-use Prim.Native.Nat.{ℕ, zero, suc, _+_, _-_, _<_, _≤_}
+use Prim.Native.Nat.{ℕ, zero, suc, _-_, _<_, _≤_}
 use native.Mathlib.Nat.{suc-ne-zero}
 use mathlib.Core.Bool.{Bool, true, false, not}
-use mathlib.Core.List.{List, [], _∷_}
-use mathlib.Core.Option.{Option, none, some}
+use mathlib.Core.List.{List, []}
+use mathlib.Core.Option.{none, some}
 use lib.Dec.{T, leb}
 use lib.ListN.{length, set}
 use borrow.Author.Tests.{lt-ltb, le-ltb, le-leb, lt-leb, leb-false}
-use Rattle.subject.specs.Choice.{pick, or}
+use Rattle.subject_rules.specs.Choice.{pick, or}
 use Rattle.subject.specs.declared.SubjectError.{SubjectError}
 use Rattle.subject.specs.declared.SubjectError.the-variants.{TooLong, NotUtf8, Empty, TailWildcardNotLast, TooDeep, EmptyToken, WildcardNotAllowed, ControlChar, IllegalChar}
 use Rattle.subject.specs.declared.Parsed.{Parsed}
 use Rattle.subject.specs.declared.Parsed.the-variants.{Accepted, Refused}
-use Rattle.subject.specs.Answers.{Answer, answer, refusal, parsed, unless, whenAccepted}
-use Rattle.subject.specs.Grammar.{grammar}
+use Rattle.subject_rules.specs.Answers.{Answer, answer, unless, whenAccepted}
+use Rattle.subject.specs.Answers.{refusal, parsed}
+use Rattle.subject_rules.specs.Grammar.{grammar}
 use Rattle.subject.proofs.Refusals.{refused-stands}
 use Rattle.sublist_tree.specs.Lists.{put}
 use Rattle.sublist_entries.specs.declared.Entry.{Entry}
@@ -27,7 +28,7 @@ use Rattle.sublist_entries.specs.declared.ListState.{ListState}
 use Rattle.sublist_entries.specs.declared.Placing.{Placing}
 use Rattle.sublist_entries.specs.declared.Inserted.{Inserted}
 use Rattle.sublist_entries.specs.declared.Inserted.the-variants.{Done, Invalid, EntriesFull, TextFull}
-use Rattle.sublist_entries.specs.Inserting.{entriesFull, textFull, withPattern, listNumbers, insertSays, appended, afterAnswer, InsertOutcome, insertBy, insertInto}
+use Rattle.sublist_entries.specs.Inserting.{withPattern, listNumbers, insertSays, appended, afterAnswer, insertBy, insertInto}
 use Rattle.sublist_entries.specs.Answers.{insertAnswer, inserted}
 use Rattle.sublist_entries.specs.Placing.{refusedAs, turnedDown, taken, decided, roomSays, Decides}
 

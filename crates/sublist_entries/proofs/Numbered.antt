@@ -11,9 +11,9 @@ use native.Mathlib.Omega.{arith}
 use lib.Dec.{T, leb}
 use lib.ListN.{length, set}
 use lib.Seq.{sets, set-out, length-sets, lt-length-set}
-use borrow.Author.Tests.{leb-true, leb-false, le-leb}
-use Rattle.subject.specs.Choice.{pick}
-use Rattle.subject.specs.Answers.{Answer, answer}
+use borrow.Author.Tests.{leb-true, le-leb}
+use Rattle.subject_rules.specs.Choice.{pick}
+use Rattle.subject_rules.specs.Answers.{Answer, answer}
 use Rattle.sublist_tree.specs.Lists.{put}
 use Rattle.sublist_entries.specs.declared.Entry.{Entry}
 use Rattle.sublist_entries.specs.declared.ListState.{ListState}
@@ -22,7 +22,7 @@ use Rattle.sublist_entries.specs.Answers.{inserted}
 use Rattle.sublist_entries.specs.Placing.{Decides}
 use Rattle.sublist_entries.proofs.Deciding.{written, unwritten}
 use Rattle.sublist_entries.specs.Inserting.{insertSays, appended, afterAnswer, InsertOutcome, insertBy, insertInto}
-use Rattle.sublist_entries.specs.Numbers.{entryNumbers, numbersOf, unflat, entriesIn, putEntry, insertNumbers}
+use Rattle.sublist_entries.specs.Numbers.{entryNumbers, numbersOf, entriesIn, putEntry, insertNumbers}
 
 third : (n : ℕ) → suc (suc (suc n)) / 3 ≡ suc (n / 3)
 third n = omega arith

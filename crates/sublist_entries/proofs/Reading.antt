@@ -9,21 +9,21 @@ use native.Mathlib.Omega.{arith}
 use native.Mathlib.Numerals.{add-one}
 use mathlib.Core.Path.{_≡_, refl, sym, _∙_, ap, subst}
 use mathlib.Core.Bool.{Bool, true, false}
-use mathlib.Core.List.{List, [], _∷_, _++_, map, map-append}
+use mathlib.Core.List.{List, [], _∷_, _++_, map-append}
 use mathlib.Core.Option.{none, some}
 use lib.Dec.{ltb, leb}
-use lib.ListN.{length, take, drop, set, length-drop, length-append, length-set, take-append-drop}
+use lib.ListN.{length, take, drop, set, length-drop, length-append, take-append-drop}
 use lib.Seq.{take-append-le, drop-append-le, take-append-seam, drop-at, take-suc-set, length-take-le}
 use borrow.Author.Tests.{ltb-false, leb-false}
-use Rattle.subject.specs.Choice.{pick, or}
-use Rattle.subject.specs.Answers.{Answer, answer, unless, whenAccepted}
-use Rattle.subject.specs.Grammar.{grammar}
-use Rattle.sublist_tree.specs.Lists.{put, sum, All}
+use Rattle.subject_rules.specs.Choice.{pick, or}
+use Rattle.subject_rules.specs.Answers.{Answer, answer, unless, whenAccepted}
+use Rattle.subject_rules.specs.Grammar.{grammar}
+use Rattle.sublist_tree.specs.Lists.{put, All}
 use Rattle.sublist_tree.specs.Table.{TableEntry}
 use Rattle.sublist_entries.specs.declared.Entry.{Entry}
 use Rattle.sublist_entries.specs.declared.ListState.{ListState}
 use Rattle.sublist_entries.specs.Entries.{inUse, textOf, word32, readFrom}
-use Rattle.sublist_entries.specs.Inserting.{withPattern, listNumbers, insertSays, appended, afterAnswer, InsertOutcome, insertInto}
+use Rattle.sublist_entries.specs.Inserting.{withPattern, listNumbers, insertSays, appended, afterAnswer, insertInto}
 use Rattle.sublist_entries.specs.Inserts.{Desk, emptyDesk, stateAfter, insertOn, deskAfter, heldOn, bytesOf, demanded, takenAfter, EachTaken}
 
 -- ---- parts of a store that is written over

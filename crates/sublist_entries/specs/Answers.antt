@@ -1,7 +1,8 @@
 -- 01's numbers and values for the answers of an insert.
 use Prim.Native.Nat.{ℕ}
 use mathlib.Core.List.{List, [], _∷_}
-use Rattle.subject.specs.Answers.{Answer, answer, refusal}
+use Rattle.subject_rules.specs.Answers.{Answer, answer}
+use Rattle.subject.specs.Answers.{refusal}
 use Rattle.sublist_entries.specs.declared.Inserted.{Inserted}
 use Rattle.sublist_entries.specs.declared.Inserted.the-variants.{Done, Invalid, EntriesFull, TextFull}
 use Rattle.sublist_entries.specs.Inserting.{InsertOutcome}

@@ -2,7 +2,7 @@
 use Prim.Native.Nat.{ℕ, _%_, _^_}
 use mathlib.Core.List.{List, map}
 use lib.ListN.{take, drop}
-use Rattle.subject.specs.Fnv.{fnv}
+use Rattle.subject_rules.specs.Fnv.{fnv}
 use Rattle.sublist_tree.specs.Tree.{Line}
 use Rattle.sublist_tree.specs.Table.{TableEntry, rootOf}
 use Rattle.sublist_entries.specs.declared.Entry.{Entry}

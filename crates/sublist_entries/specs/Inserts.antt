@@ -6,9 +6,9 @@ use mathlib.Core.Bool.{true}
 use mathlib.Core.List.{List, [], _∷_, _++_, map}
 use lib.Dec.{ltb, leb}
 use lib.ListN.{length, getD}
-use Rattle.subject.specs.Choice.{pick, or}
-use Rattle.subject.specs.Answers.{Answer, answer, whenAccepted}
-use Rattle.subject.specs.Grammar.{grammar}
+use Rattle.subject_rules.specs.Choice.{pick, or}
+use Rattle.subject_rules.specs.Answers.{Answer, answer, whenAccepted}
+use Rattle.subject_rules.specs.Grammar.{grammar}
 use Rattle.sublist_tree.specs.Lists.{sum}
 use Rattle.sublist_tree.specs.Table.{TableEntry}
 use Rattle.sublist_entries.specs.declared.Entry.{Entry}

@@ -4,7 +4,7 @@ use mathlib.Core.Path.{_≡_}
 use mathlib.Core.Bool.{true, false}
 use mathlib.Core.List.{List}
 use lib.ListN.{length}
-use Rattle.subject.specs.Answers.{Answer, answer, unless}
+use Rattle.subject_rules.specs.Answers.{Answer, answer, unless}
 use Rattle.subject.specs.declared.Parsed.{Parsed}
 use Rattle.subject.specs.declared.Parsed.the-variants.{Accepted, Refused}
 use Rattle.sublist_tree.specs.Lists.{put}

@@ -8,14 +8,14 @@ use mathlib.Core.Option.{Option, none, some}
 use lib.Dec.{eqb, ltb}
 use lib.ListN.{length}
 use borrow.Author.Tests.{ltb-false}
-use Rattle.subject.specs.Choice.{pick}
-use Rattle.subject.specs.Text.{tokens}
-use Rattle.subject.specs.Utf8.{firstBad}
-use Rattle.subject.specs.Answers.{answer, unless}
-use Rattle.subject.specs.Grammar.{check, notUtf8, grammar}
-use Rattle.subject.specs.Original as subject
-use Rattle.subject.specs.Original.{Error, Empty, EmptyToken, IllegalChar, ControlChar, WildcardNotAllowed, TailWildcardNotLast, TooDeep, validate, answerOf}
-use Rattle.subject.proofs.SameGrammar.{grammar-original}
+use Rattle.subject_rules.specs.Choice.{pick}
+use Rattle.subject_rules.specs.Text.{tokens}
+use Rattle.subject_rules.specs.Utf8.{firstBad}
+use Rattle.subject_rules.specs.Answers.{answer, unless}
+use Rattle.subject_rules.specs.Grammar.{check, notUtf8, grammar}
+use Rattle.subject_rules.specs.Original as subject
+use Rattle.subject_rules.specs.Original.{Error, Empty, EmptyToken, IllegalChar, ControlChar, WildcardNotAllowed, TailWildcardNotLast, TooDeep, validate, answerOf}
+use Rattle.subject_rules.proofs.SameGrammar.{grammar-original}
 use Rattle.sublist_tree.specs.Lists.{All}
 use Rattle.sublist_tree.specs.Table.{TableEntry, Accepted}
 use Rattle.sublist_original.specs.Original.{SublistBuilder, new, push, insert-all}

@@ -9,7 +9,7 @@ use lib.Dec.{eqb}
 use lib.ListN.{length, getD, set, length-set, length-append}
 use lib.Seq.{getD-set-same, getD-set-other}
 use borrow.Author.Tests.{eq-eqb, ne-eqb}
-use Rattle.subject.specs.Choice.{and}
+use Rattle.subject_rules.specs.Choice.{and}
 use Rattle.sublist_tree.specs.Tree.{Key, star, lit}
 use Rattle.sublist_tree.proofs.Sorting.{pick-push}
 use Rattle.sublist_tree.proofs.Order.{and-false}

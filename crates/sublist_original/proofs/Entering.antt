@@ -8,12 +8,12 @@ use mathlib.Core.List.{List, [], _∷_, _++_, append-nil, append-assoc}
 use lib.Dec.{eqb}
 use lib.ListN.{length, length-map}
 use borrow.Author.Tests.{eq-eqb, ne-eqb}
-use Rattle.subject.specs.Choice.{pick, and}
-use Rattle.subject.specs.Text.{tokens, isStar, isTail}
-use Rattle.subject.specs.Fnv.{fnv}
-use Rattle.subject.specs.Original as subject
-use Rattle.subject.specs.Original.{if_then_else_, equal, WILDCARD-ONE, WILDCARD-TAIL, validate}
-use Rattle.subject.proofs.SameGrammar.{split-tokens, depth-original, depth-bounded}
+use Rattle.subject_rules.specs.Choice.{pick, and}
+use Rattle.subject_rules.specs.Text.{tokens, isStar, isTail}
+use Rattle.subject_rules.specs.Fnv.{fnv}
+use Rattle.subject_rules.specs.Original as subject
+use Rattle.subject_rules.specs.Original.{if_then_else_, equal, WILDCARD-ONE, WILDCARD-TAIL, validate}
+use Rattle.subject_rules.proofs.SameGrammar.{split-tokens, depth-original, depth-bounded}
 use Rattle.sublist_tree.specs.Lists.{All}
 use Rattle.sublist_tree.specs.Tree.{Key, star, lit, Line, line, onto, targetOf, lineOf, keysOf}
 use Rattle.sublist_tree.specs.Table.{TableEntry, entryLine, rootOf}

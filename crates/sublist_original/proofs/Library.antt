@@ -8,7 +8,7 @@ use mathlib.Core.Option.{Option, none, some}
 use lib.Dec.{leb, eqb}
 use mathlib.Core.Bool.{Bool, true, false}
 use borrow.Author.Tests.{leb-true, leb-false, eqb-true, eqb-false}
-use Rattle.subject.specs.Choice.{pick}
+use Rattle.subject_rules.specs.Choice.{pick}
 use Rattle.sublist_tree.proofs.Members.{In, Distinct, All-in, All-at}
 use Rattle.sublist_original.specs.Original.{Ok, _!_, Literal, Each, Ascending, Reordered, empty, first, swap, in-turn, Std}
 

@@ -4,7 +4,7 @@ use native.Mathlib.Omega.{arith}
 use mathlib.Core.Path.{_≡_, refl, _∙_, ap}
 use mathlib.Core.List.{List, [], _∷_}
 use lib.ListN.{length}
-use Rattle.subject.specs.Original as subject
+use Rattle.subject_rules.specs.Original as subject
 use Rattle.sublist_tree.specs.Table.{TableEntry}
 use Rattle.sublist_tree.specs.Timetable.{bytes, entry, holds, asTable, timetable}
 use Rattle.sublist_tree.proofs.Rows.{timetable-holds}

@@ -4,23 +4,23 @@
 --   refused-build    that first one refused by the original's parser → its build gives InvalidPattern with the same refusal
 use Prim.Native.Nat.{ℕ, _+_, _≤_}
 use native.Mathlib.Omega.{arith}
-use mathlib.Core.Path.{_≡_, refl, sym, _∙_, ap, subst}
-use mathlib.Core.Bool.{Bool, true, false, not}
-use mathlib.Core.List.{List, [], _∷_, _++_, map, map-append}
-use mathlib.Core.Option.{Option, none, some}
+use mathlib.Core.Path.{_≡_, refl, _∙_, ap, subst}
+use mathlib.Core.Bool.{Bool, true, not}
+use mathlib.Core.List.{List, [], _∷_, _++_, map-append}
+use mathlib.Core.Option.{Option, some}
 use lib.ListN.{length, length-append, length-map}
 use borrow.Author.Tests.{le-ltb}
-use Rattle.subject.specs.Answers.{Answer, answer}
-use Rattle.subject.specs.Grammar.{grammar, firstOf}
-use Rattle.subject.specs.Original as subject
-use Rattle.subject.specs.Original.{Str, Error, Empty, EmptyToken, IllegalChar, ControlChar, WildcardNotAllowed, TailWildcardNotLast, TooDeep, if_then_else_, validate, tokens, answerOf}
-use Rattle.subject.proofs.SameGrammar.{grammar-original}
+use Rattle.subject_rules.specs.Answers.{Answer}
+use Rattle.subject_rules.specs.Grammar.{firstOf}
+use Rattle.subject_rules.specs.Original as subject
+use Rattle.subject_rules.specs.Original.{Str, Error, Empty, EmptyToken, IllegalChar, ControlChar, WildcardNotAllowed, TailWildcardNotLast, TooDeep, if_then_else_, validate, tokens, answerOf}
+use Rattle.subject_rules.proofs.SameGrammar.{grammar-original}
 use Rattle.sublist_tree.specs.Lists.{All}
 use Rattle.sublist_tree.specs.Table.{TableEntry}
 use Rattle.sublist_entries.specs.declared.Entry.{Entry}
 use Rattle.sublist_entries.specs.Entries.{textOf, targetWord, readFrom}
-use Rattle.sublist.specs.Building.{held, invalid, badEntry, badEntries}
-use Rattle.sublist_original.specs.Original.{Outcome, Ok, Err, Panic, InvalidPattern, _>>=_, NodeId, Arena, ROOT, parsed, root-alone, push-terminal, each-token, each-entry, Std, SublistBuilder, Sublist, build}
+use Rattle.sublist_rules.specs.Building.{held, invalid, badEntry, badEntries}
+use Rattle.sublist_original.specs.Original.{Outcome, Ok, Err, Panic, InvalidPattern, _>>=_, NodeId, Arena, ROOT, parsed, root-alone, push-terminal, each-token, each-entry, Std, build}
 use Rattle.sublist_original.specs.Entries.{pair, pairs, builderOf}
 use Rattle.sublist_original.specs.Same.{Plain}
 use Rattle.sublist_original.proofs.Entering.{Valid, entered}

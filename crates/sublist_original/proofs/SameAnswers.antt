@@ -4,41 +4,41 @@
 --   insert-same-entry      one that it accepts: kept behind the others; we then answer 10, 11 or the counts
 --   build-same             entries that 10, 12, 14, 15 do not meet, their texts UTF-8 of at most 4,096 bytes: the original's table, its lists, or its refusal (13, 16)
 --   match-same-refusal     a text that `parse_literal` refuses: its refusal, over any table
-use Prim.Native.Nat.{ℕ, _+_, _-_, _/_, _≤_, _<_}
+use Prim.Native.Nat.{ℕ, _-_, _/_, _≤_, _<_}
 use native.Mathlib.Omega.{arith}
 use native.Mathlib.Decide.{decLt}
 use mathlib.Core.Path.{_≡_, refl, sym, _∙_, ap, subst}
 use mathlib.Core.Bool.{true, false}
 use mathlib.Core.List.{List, [], _∷_, map}
 use mathlib.Core.Option.{Option, none, some}
-use lib.Dec.{eqb, ltb, leb}
+use lib.Dec.{eqb, ltb}
 use lib.ListN.{length, length-map}
 use borrow.Author.Tests.{lt-ltb, le-ltb}
-use Rattle.subject.specs.Choice.{pick, or}
-use Rattle.subject.specs.Text.{tokens}
-use Rattle.subject.specs.Utf8.{firstBad}
-use Rattle.subject.specs.Fnv.{fnv}
-use Rattle.subject.specs.Answers.{Answer, answer, unless, whenAccepted}
-use Rattle.subject.specs.Original as subject
-use Rattle.subject.specs.Original.{Error, Empty, EmptyToken, IllegalChar, ControlChar, WildcardNotAllowed, TailWildcardNotLast, TooDeep, validate, answerOf}
-use Rattle.subject.proofs.SameGrammar.{grammar-original}
+use Rattle.subject_rules.specs.Choice.{pick}
+use Rattle.subject_rules.specs.Text.{tokens}
+use Rattle.subject_rules.specs.Utf8.{firstBad}
+use Rattle.subject_rules.specs.Fnv.{fnv}
+use Rattle.subject_rules.specs.Answers.{Answer, answer, unless, whenAccepted}
+use Rattle.subject_rules.specs.Original as subject
+use Rattle.subject_rules.specs.Original.{Error, Empty, EmptyToken, IllegalChar, ControlChar, WildcardNotAllowed, TailWildcardNotLast, TooDeep, validate, answerOf}
+use Rattle.subject_rules.proofs.SameGrammar.{grammar-original}
 use Rattle.sublist_tree.specs.Lists.{All}
 use Rattle.sublist_tree.specs.Tree.{walk, peak, worst}
 use Rattle.sublist_tree.specs.Nodes.{nodes}
 use Rattle.sublist_tree.specs.Table.{entryLine, Accepted}
 use Rattle.sublist_tree.proofs.Hash.{hash-fork}
-use Rattle.sublist_walk.specs.Walk.{found, walkOver}
-use Rattle.sublist_walk.specs.Matching.{countsFit, Outcome, outcome, written, ifSubject, matchTable}
-use Rattle.sublist_walk.proofs.Held.{match-holds}
+use Rattle.sublist_walk_rules.specs.Walk.{found, walkOver}
+use Rattle.sublist_walk_rules.specs.Matching.{countsFit, Outcome, outcome, written, ifSubject, matchTable}
+use Rattle.sublist_walk_rules.proofs.Held.{match-holds}
 use Rattle.sublist_entries.specs.declared.Entry.{Entry}
 use Rattle.sublist_entries.specs.declared.ListState.{ListState}
 use Rattle.sublist_entries.specs.Entries.{textOf, readFrom, linesOf}
 use Rattle.sublist_entries.specs.Inserting.{entriesFull, textFull, withPattern, listNumbers, insertSays}
-use Rattle.sublist.specs.Building.{badEntries, needed, worstOf, buildSays}
-use Rattle.sublist.specs.Leaving.{buildLeaves, BuildOutcome, buildInto}
-use Rattle.sublist.specs.Passes.{nodeWordsIn, targetWordsIn}
-use Rattle.sublist.proofs.Composed.{lines-length, all-accepted}
-use Rattle.sublist.proofs.Builds.{Taken, build-stands}
+use Rattle.sublist_rules.specs.Building.{badEntries, needed, worstOf, buildSays}
+use Rattle.sublist_rules.specs.Leaving.{buildLeaves, BuildOutcome, buildInto}
+use Rattle.sublist_rules.specs.Passes.{nodeWordsIn, targetWordsIn}
+use Rattle.sublist_rules.proofs.Composed.{lines-length, all-accepted}
+use Rattle.sublist_rules.proofs.Builds.{Taken, build-stands}
 use Rattle.sublist_original.specs.Original.{Ok, Err, Panic, SublistError, InvalidPattern, ForkLimitExceeded, Std, SublistBuilder, new, push, insert, insert-all, Sublist, build, node-count, match-into}
 use Rattle.sublist_original.specs.Original as original
 use Rattle.sublist_original.specs.Entries.{pairs, builderOf}

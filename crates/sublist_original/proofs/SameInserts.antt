@@ -1,33 +1,32 @@
 -- From the first insert on: each insert of ours is answered as the original's, its builder has what our list holds, and a build of both and the matches behind it are the same.
 --
 --   inserts-same    any inserts from an empty list on, accepted and refused → EachInsertSame, and SameTables behind the last one
-use Prim.Native.Nat.{ℕ, zero, suc, _+_, _-_, _/_, _≤_, _<_}
+use Prim.Native.Nat.{ℕ, zero, suc, _+_, _-_, _≤_, _<_}
 use native.Mathlib.Omega.{arith}
 use mathlib.Core.Path.{_≡_, refl, sym, _∙_, ap, subst}
 use mathlib.Core.Bool.{Bool, true, false}
-use mathlib.Core.List.{List, [], _∷_, _++_, map, map-append}
+use mathlib.Core.List.{List, [], _∷_, _++_, map-append}
 use mathlib.Core.Option.{Option, none, some}
 use lib.Dec.{eqb, ltb, leb}
 use lib.ListN.{length, length-append, length-map}
 use borrow.Author.Tests.{ltb-false, leb-false}
-use Rattle.subject.specs.Choice.{pick, or}
-use Rattle.subject.specs.Text.{tokens}
-use Rattle.subject.specs.Utf8.{firstBad}
-use Rattle.subject.specs.Answers.{Answer, answer, unless, whenAccepted}
-use Rattle.subject.specs.Grammar.{notUtf8, check, grammar}
-use Rattle.subject.specs.Original as subject
-use Rattle.subject.specs.Original.{validate, answerOf}
-use Rattle.subject.proofs.SameGrammar.{grammar-original}
+use Rattle.subject_rules.specs.Choice.{pick, or}
+use Rattle.subject_rules.specs.Text.{tokens}
+use Rattle.subject_rules.specs.Utf8.{firstBad}
+use Rattle.subject_rules.specs.Answers.{Answer, answer, unless, whenAccepted}
+use Rattle.subject_rules.specs.Grammar.{notUtf8, check, grammar}
+use Rattle.subject_rules.specs.Original as subject
+use Rattle.subject_rules.specs.Original.{validate, answerOf}
+use Rattle.subject_rules.proofs.SameGrammar.{grammar-original}
 use Rattle.sublist_tree.specs.Lists.{All}
 use Rattle.sublist_tree.specs.Table.{TableEntry, Accepted}
 use Rattle.sublist_entries.specs.declared.Entry.{Entry}
 use Rattle.sublist_entries.specs.Entries.{inUse, textOf, targetWord, word32, readFrom}
 use Rattle.sublist_entries.specs.Inserting.{afterAnswer}
-use Rattle.sublist_entries.specs.Inserts.{Desk, emptyDesk, insertOn, deskAfter, heldOn, bytesOf, demanded, takenAfter}
+use Rattle.sublist_entries.specs.Inserts.{Desk, emptyDesk, insertOn, deskAfter, heldOn, bytesOf, demanded}
 use Rattle.sublist_entries.proofs.Reading.{Below, Stands, says-demanded, stands-then, stands-empty}
-use Rattle.sublist.specs.Building.{needed}
-use Rattle.sublist.specs.Leaving.{buildInto}
-use Rattle.sublist.proofs.AcceptedEntries.{not-invalid}
+use Rattle.sublist_rules.specs.Leaving.{buildInto}
+use Rattle.sublist_rules.proofs.AcceptedEntries.{not-invalid}
 use Rattle.sublist_original.specs.Original.{Std, SublistBuilder, new, push, insert, build}
 use Rattle.sublist_original.specs.Entries.{pair, builderOf}
 use Rattle.sublist_original.specs.Same.{addedRefusal, SameInsert, ComparedInsert, EachInsertSame, Plain, SameBuild, SameTables}

@@ -20,10 +20,10 @@ use mathlib.Core.List.{List, [], _∷_, map}
 use lib.Dec.{eqb, ltb}
 use lib.ListN.{length, getD, length-map}
 use borrow.Author.Tests.{lt-ltb, le-ltb}
-use Rattle.subject.specs.Text.{tokens}
-use Rattle.subject.specs.Fnv.{fnv}
-use Rattle.subject.specs.Original as subject
-use Rattle.subject.specs.Original.{if_then_else_}
+use Rattle.subject_rules.specs.Text.{tokens}
+use Rattle.subject_rules.specs.Fnv.{fnv}
+use Rattle.subject_rules.specs.Original as subject
+use Rattle.subject_rules.specs.Original.{if_then_else_}
 use Rattle.sublist_tree.specs.Lists.{All}
 use Rattle.sublist_tree.specs.Tree.{Line, walk, worst}
 use Rattle.sublist_tree.specs.Nodes.{nodes}

@@ -11,7 +11,7 @@ use lib.Dec.{eqb}
 use lib.ListN.{length, getD, set, length-set}
 use lib.Seq.{getD-set-same, getD-set-other}
 use borrow.Author.Tests.{eq-eqb, ne-eqb, eqb-true, eqb-false}
-use Rattle.subject.specs.Choice.{pick}
+use Rattle.subject_rules.specs.Choice.{pick}
 use Rattle.sublist_tree.specs.Lists.{All}
 use Rattle.sublist_tree.specs.Tree.{Key, star, lit, keyIs}
 use Rattle.sublist_tree.proofs.Sorting.{map-append, All-append}

@@ -9,10 +9,10 @@ use mathlib.Core.Option.{Option, none, some}
 use lib.Dec.{eqb}
 use lib.ListN.{length, getD, length-append}
 use borrow.Author.Tests.{eq-eqb, ne-eqb, lt-ltb}
-use Rattle.subject.specs.Choice.{pick}
-use Rattle.subject.specs.Text.{tokens}
-use Rattle.subject.specs.Fnv.{fnv}
-use Rattle.subject.proofs.SameGrammar.{split-tokens}
+use Rattle.subject_rules.specs.Choice.{pick}
+use Rattle.subject_rules.specs.Text.{tokens}
+use Rattle.subject_rules.specs.Fnv.{fnv}
+use Rattle.subject_rules.proofs.SameGrammar.{split-tokens}
 use Rattle.sublist_tree.specs.Lists.{All, concat}
 use Rattle.sublist_tree.specs.Tree.{star, lit, Line, ends, walk, worst}
 use Rattle.sublist_tree.proofs.Fork.{Within, peak-worst}

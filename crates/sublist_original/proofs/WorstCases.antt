@@ -10,7 +10,7 @@ use lib.Dec.{eqb, ltb}
 use lib.ListN.{length, getD, set, replicate, length-set, length-replicate}
 use lib.Seq.{getD-set-same, getD-set-other}
 use borrow.Author.Tests.{eq-eqb, ltb-false}
-use Rattle.subject.specs.Original.{if_then_else_}
+use Rattle.subject_rules.specs.Original.{if_then_else_}
 use Rattle.sublist_tree.specs.Lists.{largest}
 use Rattle.sublist_tree.specs.Tree.{Key, star, lit, Line, ifAny, below, heads, worst}
 use Rattle.sublist_tree.proofs.Fork.{Within, worst-fuel}

@@ -15,9 +15,9 @@ use mathlib.Core.List.{List, [], _∷_, _++_}
 use mathlib.Core.Option.{Option, none, some}
 use lib.Dec.{eqb, ltb, leb}
 use lib.ListN.{length, take, drop, replicate}
-use Rattle.subject.specs.Original as subject
-use Rattle.subject.specs.Original.{if_then_else_, Str, equal, Error, WILDCARD-ONE, WILDCARD-TAIL, validate, tokens}
-use Rattle.subject.specs.Fnv.{fnv}
+use Rattle.subject_rules.specs.Original as subject
+use Rattle.subject_rules.specs.Original.{if_then_else_, Str, equal, Error, WILDCARD-ONE, WILDCARD-TAIL, validate, tokens}
+use Rattle.subject_rules.specs.Fnv.{fnv}
 
 infixl 3 _>>=_
 infixl 9 _!_

@@ -2,26 +2,25 @@
 -- the lists that both then give.
 use Prim.Native.Nat.{ℕ, _/_, _≤_}
 use mathlib.Core.Path.{_≡_}
-use mathlib.Core.Bool.{Bool, true, false}
+use mathlib.Core.Bool.{Bool, false}
 use mathlib.Core.List.{List, [], _∷_}
 use mathlib.Core.Option.{none}
 use lib.Dec.{leb}
 use lib.ListN.{length}
-use Rattle.subject.specs.Choice.{pick, and, or}
-use Rattle.subject.specs.Answers.{Answer, answer}
-use Rattle.subject.specs.Utf8.{firstBad}
-use Rattle.subject.specs.Original as subject
-use Rattle.subject.specs.Original.{validate, answerOf}
+use Rattle.subject_rules.specs.Choice.{pick, and, or}
+use Rattle.subject_rules.specs.Answers.{Answer, answer}
+use Rattle.subject_rules.specs.Utf8.{firstBad}
+use Rattle.subject_rules.specs.Original as subject
+use Rattle.subject_rules.specs.Original.{validate, answerOf}
 use Rattle.sublist_tree.specs.Table.{TableEntry}
-use Rattle.sublist_walk.specs.Walk.{found}
-use Rattle.sublist_walk.specs.Matching as ours
-use Rattle.sublist_walk.specs.Matching.{outcome, written, matchTable}
-use Rattle.sublist_entries.specs.declared.Entry.{Entry}
+use Rattle.sublist_walk_rules.specs.Walk.{found}
+use Rattle.sublist_walk_rules.specs.Matching as ours
+use Rattle.sublist_walk_rules.specs.Matching.{outcome, written, matchTable}
 use Rattle.sublist_entries.specs.Entries.{inUse, word32}
 use Rattle.sublist_entries.specs.Inserts.{Desk, insertOn, deskAfter}
-use Rattle.sublist.specs.Building.{held, needed, worstOf}
-use Rattle.sublist.specs.Passes.{nodeWordsIn, targetWordsIn}
-use Rattle.sublist.specs.Leaving.{BuildOutcome, buildInto}
+use Rattle.sublist_rules.specs.Building.{held, needed}
+use Rattle.sublist_rules.specs.Passes.{nodeWordsIn, targetWordsIn}
+use Rattle.sublist_rules.specs.Leaving.{BuildOutcome, buildInto}
 use Rattle.sublist_original.specs.Original.{Outcome, Ok, Err, Panic, InvalidPattern, ForkLimitExceeded, Std}
 use Rattle.sublist_original.specs.Original.{SublistBuilder, insert, Sublist, build, node-count, match-into}
 

@@ -8,10 +8,10 @@ use mathlib.Core.Option.{none, some}
 use lib.ListN.{length, take, drop, length-append, length-drop}
 use lib.Seq.{take-at, drop-at, length-take-le}
 use borrow.Author.Tests.{lt-ltb, le-ltb}
-use Rattle.subject.specs.Answers.{answer}
+use Rattle.subject_rules.specs.Answers.{answer}
 use Rattle.sublist_tree.specs.Tree.{Line}
-use Rattle.sublist_walk.specs.Holds.{Holds}
-use Rattle.sublist_walk.proofs.Held.{counts-hold}
+use Rattle.sublist_walk_rules.specs.Holds.{Holds}
+use Rattle.sublist_walk_rules.proofs.Held.{counts-hold}
 use Rattle.sublist_snapshot.specs.declared.Snapshot.{Snapshot}
 use Rattle.sublist_snapshot.specs.Snapshot.{Table, lengthOf, sound, refusedTable, wordsOf, copied, stored, make}
 use Rattle.sublist_snapshot.specs.Snapshot.{storeIn, nodesIn, targetsIn}

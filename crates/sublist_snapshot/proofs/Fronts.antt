@@ -11,13 +11,15 @@ use borrow.Author.Tests.{leb-true, leb-false, le-leb, lt-leb}
 use Rattle.subject.specs.declared.SubjectError.{SubjectError}
 use Rattle.subject.specs.declared.Parsed.{Parsed}
 use Rattle.subject.specs.declared.Parsed.the-variants.{Accepted, Refused}
-use Rattle.subject.specs.Answers.{Answer, answer, refusal, parsed, whenAccepted}
-use Rattle.subject.specs.Grammar.{grammar}
+use Rattle.subject_rules.specs.Answers.{Answer, answer, whenAccepted}
+use Rattle.subject.specs.Answers.{refusal, parsed}
+use Rattle.subject_rules.specs.Grammar.{grammar}
 use Rattle.subject.proofs.Refusals.{refused-stands}
 use Rattle.sublist_walk.specs.declared.TableMatch.{TableMatch}
 use Rattle.sublist_walk.specs.declared.TableMatch.the-variants.{Invalid}
 use Rattle.sublist_walk.proofs.Writing.{parsed-same, subject-refused}
-use Rattle.sublist_walk.specs.Matching.{Outcome, matchAnswer, outcome, ifSubject, matchTable, matchParsed}
+use Rattle.sublist_walk_rules.specs.Matching.{Outcome, outcome, matchParsed}
+use Rattle.sublist_walk.specs.Answers.{matchAnswer}
 use Rattle.sublist_snapshot.specs.declared.Generation.{Generation}
 use Rattle.sublist_snapshot.specs.declared.Snapshot.{Snapshot}
 use Rattle.sublist_snapshot.specs.Snapshot.{nodesIn, targetsIn, withGeneration, matchIn, matchParsedIn}

@@ -8,12 +8,12 @@ use lib.Dec.{eqb, leb}
 use lib.ListN.{length, take, getD}
 use lib.Seq.{getD-take, length-take-le, take-take}
 use borrow.Author.Tests.{leb-false, lt-leb, le-ltb}
-use Rattle.subject.specs.Choice.{pick}
+use Rattle.subject_rules.specs.Choice.{pick}
 use Rattle.sublist_tree.specs.Tree.{Key, star, lit, Line, ends, leftAt}
-use Rattle.sublist_area.specs.declared.Child.the-variants.{Node, Missing, Damaged}
-use Rattle.sublist_area.specs.Words.{Met, met, told, word, hashIs, byHash, outside, seek, literalChild, starChild, childOf}
-use Rattle.sublist_walk.specs.Walk.{part}
-use Rattle.sublist_walk.specs.Holds.{Says, Holds}
+use Rattle.sublist_area_rules.specs.declared.Child.the-variants.{Node, Missing, Damaged}
+use Rattle.sublist_area_rules.specs.Words.{Met, met, told, word, hashIs, byHash, outside, seek, literalChild, starChild, childOf}
+use Rattle.sublist_walk_rules.specs.Walk.{part}
+use Rattle.sublist_walk_rules.specs.Holds.{Says, Holds}
 
 -- a part of a list's first m elements
 pub part-take : (m : ℕ) (xs : List ℕ) (from count : ℕ) → from + count ≤ m → part (take m xs) from count ≡ part xs from count

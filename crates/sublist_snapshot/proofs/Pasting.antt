@@ -10,10 +10,10 @@ use lib.Dec.{leb, ltb}
 use lib.ListN.{length, take, drop, length-append}
 use lib.Seq.{paste, take-paste, drop-paste, length-take-le, drop-drop}
 use borrow.Author.Tests.{leb-true}
-use Rattle.subject.specs.Choice.{and}
-use Rattle.subject.specs.Answers.{Answer}
+use Rattle.subject_rules.specs.Choice.{and}
+use Rattle.subject_rules.specs.Answers.{Answer}
 use Rattle.sublist_tree.proofs.Bytes.{and-both}
-use Rattle.sublist_walk.specs.Matching.{over, countsFit}
+use Rattle.sublist_walk_rules.specs.Matching.{over, countsFit}
 use Rattle.sublist_snapshot.specs.declared.Snapshot.{Snapshot}
 use Rattle.sublist_snapshot.specs.declared.Copied.{Copied}
 use Rattle.sublist_snapshot.specs.Snapshot.{Table, refusedTable, Made, madeBy, make, Stored, storedBy, storeIn}

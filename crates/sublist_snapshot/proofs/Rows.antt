@@ -1,12 +1,12 @@
 -- The definitions give each row of ours.
 use mathlib.Core.Path.{refl}
-use Rattle.subject.specs.Utf8.{sequence, firstBad}
-use Rattle.subject.specs.Fnv.{fnv, fnvFrom}
-use Rattle.subject.specs.Grammar.{grammar}
+use Rattle.subject_rules.specs.Utf8.{sequence, firstBad}
+use Rattle.subject_rules.specs.Fnv.{fnv, fnvFrom}
+use Rattle.subject_rules.specs.Grammar.{grammar}
 use Rattle.sublist_tree.specs.Lists.{All}
-use Rattle.sublist_area.specs.Words.{seek, literalChild, starChild}
-use Rattle.sublist_walk.specs.Walk.{collect, push, visit, visits, arrived, onToken, onTokens, exact, listed, ended, walkOver}
-use Rattle.sublist_walk.specs.Matching.{matchTable}
+use Rattle.sublist_area_rules.specs.Words.{seek, literalChild, starChild}
+use Rattle.sublist_walk_rules.specs.Walk.{collect, push, visit, visits, arrived, onToken, onTokens, exact, listed, ended, walkOver}
+use Rattle.sublist_walk_rules.specs.Matching.{matchTable}
 use Rattle.sublist_snapshot.specs.Snapshot.{make, makeEmpty, storeIn, matchIn}
 use Rattle.sublist_snapshot.specs.Rows.{holds, rows}
 

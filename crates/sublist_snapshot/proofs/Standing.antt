@@ -7,16 +7,16 @@ use mathlib.Core.List.{List, [], _∷_, map}
 use lib.Dec.{eqb, leb, ltb}
 use lib.ListN.{length, drop, length-take, length-drop}
 use borrow.Author.Tests.{leb-true, leb-false, le-leb, lt-leb, lt-ltb}
-use Rattle.subject.specs.Choice.{pick, and}
-use Rattle.subject.specs.Text.{tokens}
-use Rattle.subject.specs.Fnv.{fnv}
-use Rattle.subject.specs.Answers.{Answer, answer}
-use Rattle.subject.specs.Grammar.{grammar}
+use Rattle.subject_rules.specs.Choice.{pick, and}
+use Rattle.subject_rules.specs.Text.{tokens}
+use Rattle.subject_rules.specs.Fnv.{fnv}
+use Rattle.subject_rules.specs.Answers.{Answer, answer}
+use Rattle.subject_rules.specs.Grammar.{grammar}
 use Rattle.sublist_tree.specs.Tree.{Line, walk, peak}
-use Rattle.sublist_walk.specs.Walk.{found}
-use Rattle.sublist_walk.specs.Matching.{over, countsFit, outcome, written, ifSubject, matchTable}
-use Rattle.sublist_walk.proofs.Frontiers.{walk-holds}
-use Rattle.sublist_walk.proofs.Held.{hashes-fit}
+use Rattle.sublist_walk_rules.specs.Walk.{found}
+use Rattle.sublist_walk_rules.specs.Matching.{over, countsFit, outcome, written, ifSubject, matchTable}
+use Rattle.sublist_walk_rules.proofs.Frontiers.{walk-holds}
+use Rattle.sublist_walk_rules.proofs.Held.{hashes-fit}
 use Rattle.sublist_snapshot.specs.declared.Snapshot.{Snapshot}
 use Rattle.sublist_snapshot.specs.Snapshot.{nodesIn, targetsIn, standsIn, walkOf, withGeneration, matchIn}
 use Rattle.sublist_snapshot.proofs.Copies.{HoldsIn}

@@ -2,7 +2,8 @@
 -- and what a call answered and left as the calls' definitions have it.
 use Prim.Native.Nat.{ℕ}
 use mathlib.Core.List.{List, [], _∷_}
-use Rattle.subject.specs.Answers.{Answer, answer, refusal}
+use Rattle.subject_rules.specs.Answers.{Answer, answer}
+use Rattle.subject.specs.Answers.{refusal}
 use Rattle.sublist_snapshot.specs.declared.Sublist.{Sublist}
 use Rattle.sublist_snapshot.specs.declared.MadeSnapshot.{MadeSnapshot}
 use Rattle.sublist_snapshot.specs.declared.MadeSnapshot.the-variants.{Made as Fresh, Damaged as NotMade}

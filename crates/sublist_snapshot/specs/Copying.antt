@@ -2,7 +2,7 @@
 use Prim.Native.Nat.{ℕ}
 use mathlib.Core.List.{List, []}
 use mathlib.Core.Option.{Option, none, some}
-use Rattle.subject.specs.Answers.{Answer, answer}
+use Rattle.subject_rules.specs.Answers.{Answer, answer}
 use Rattle.sublist_snapshot.specs.declared.Copied.{Copied}
 use Rattle.sublist_snapshot.specs.declared.Copied.the-variants.{Done, Damaged, StoreFull}
 use Rattle.sublist_snapshot.specs.Snapshot.{Table, refusedTable, copied}

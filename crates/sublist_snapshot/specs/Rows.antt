@@ -4,9 +4,9 @@ use mathlib.Core.Path.{_≡_}
 use mathlib.Core.Bool.{Bool, true, false}
 use mathlib.Core.List.{List, [], _∷_, _++_}
 use lib.ListN.{replicate}
-use Rattle.subject.specs.Answers.{Answer, answer}
+use Rattle.subject_rules.specs.Answers.{Answer, answer}
 use Rattle.sublist_tree.specs.Timetable.{bytes}
-use Rattle.sublist_walk.specs.Matching.{outcome}
+use Rattle.sublist_walk_rules.specs.Matching.{outcome}
 use Rattle.sublist_snapshot.specs.declared.Snapshot.{Snapshot}
 use Rattle.sublist_snapshot.specs.Snapshot.{Table, make, makeEmpty, storeIn, standsIn, matchIn}
 

@@ -6,12 +6,12 @@ use mathlib.Core.List.{List, [], _∷_, _++_, map}
 use mathlib.Core.Option.{Option, none, some}
 use lib.Dec.{leb, ltb}
 use lib.ListN.{length, take, replicate}
-use Rattle.subject.specs.Choice.{pick, and}
-use Rattle.subject.specs.Text.{tokens}
-use Rattle.subject.specs.Fnv.{fnv}
-use Rattle.subject.specs.Answers.{Answer, answer}
-use Rattle.sublist_walk.specs.Walk.{part, Walked, walkOver}
-use Rattle.sublist_walk.specs.Matching.{over, countsFit, Outcome, outcome, matchTable, matchParsed}
+use Rattle.subject_rules.specs.Choice.{pick, and}
+use Rattle.subject_rules.specs.Text.{tokens}
+use Rattle.subject_rules.specs.Fnv.{fnv}
+use Rattle.subject_rules.specs.Answers.{Answer, answer}
+use Rattle.sublist_walk_rules.specs.Walk.{part, Walked, walkOver}
+use Rattle.sublist_walk_rules.specs.Matching.{over, countsFit, Outcome, outcome, matchTable, matchParsed}
 use Rattle.sublist_snapshot.specs.declared.Generation.{Generation}
 use Rattle.sublist_snapshot.specs.declared.Snapshot.{Snapshot}
 

@@ -4,8 +4,8 @@ use native.Mathlib.Omega.{arith}
 use mathlib.Core.Path.{_≡_, refl, sym, _∙_, ap}
 use mathlib.Core.List.{List, []}
 use lib.ListN.{length, getD, take, drop, length-drop}
-use Rattle.sublist_walk.specs.declared.Failure.{Failure}
-use Rattle.sublist_walk.specs.Walk.{part, level, broken, visit, visits}
+use Rattle.sublist_walk_rules.specs.declared.Failure.{Failure}
+use Rattle.sublist_walk_rules.specs.Walk.{part, level, broken, visit, visits}
 use Rattle.sublist_walk.specs.Told.{Turn, Added}
 use Rattle.sublist_walk.proofs.Lending.{back, lent-length, back-there, back-turn, turn-within, read-same}
 use Rattle.sublist_walk.proofs.Visits.{next-on, next-failed}

@@ -6,7 +6,7 @@ use mathlib.Core.Logic.{_⊎_, inl, inr, ⊎-elim}
 use mathlib.Core.List.{List, _++_}
 use lib.ListN.{length, getD, take, drop, length-drop, take-append-drop}
 use lib.Seq.{length-take-le, take-append-le, take-take, drop-append-le, take-at, drop-at, drop-drop, getD-take, getD-drop}
-use Rattle.sublist_walk.specs.Walk.{part}
+use Rattle.sublist_walk_rules.specs.Walk.{part}
 use Rattle.sublist_walk.specs.Told.{Turn}
 use Rattle.sublist_walk.proofs.Levels.{part-length}
 

@@ -7,14 +7,14 @@ use mathlib.Core.List.{List, []}
 use lib.ListN.{length, getD, take, drop, length-drop}
 use lib.Seq.{length-take-le, sets}
 use borrow.Author.Tests.{le-leb, lt-leb}
-use Rattle.sublist_area.specs.declared.Child.{Child}
-use Rattle.sublist_area.specs.Words.{word}
-use Rattle.sublist_walk.specs.declared.Failure.{Failure}
-use Rattle.sublist_walk.specs.declared.Failure.the-variants as failure
+use Rattle.sublist_area_rules.specs.declared.Child.{Child}
+use Rattle.sublist_area_rules.specs.Words.{word}
+use Rattle.sublist_walk_rules.specs.declared.Failure.{Failure}
+use Rattle.sublist_walk_rules.specs.declared.Failure.the-variants as failure
 use Rattle.sublist_walk.specs.declared.Front.{Front}
 use Rattle.sublist_walk.specs.declared.Collected.{Collected}
 use Rattle.sublist_walk.specs.declared.Step.{Step}
-use Rattle.sublist_walk.specs.Walk.{part, Level, level, broken, collect, push}
+use Rattle.sublist_walk_rules.specs.Walk.{part, Level, level, broken, collect, push}
 use Rattle.sublist_walk.specs.Told.{fronted, within, Added, Lists, Reaches}
 use Rattle.sublist_walk.specs.declared.Front.the-variants as front
 use Rattle.sublist_walk.specs.declared.Collected.the-variants as collected

@@ -11,12 +11,12 @@ use types.Run.{OneOf}
 use lib.ListN.{length, take, set}
 use lib.Seq.{length-take-le, take-suc-set}
 use borrow.Author.Tests.{lt-ltb, le-ltb}
-use Rattle.sublist_area.proofs.Child.{the-type}
-use Rattle.sublist_area.specs.declared.Child.{Child}
-use Rattle.sublist_area.specs.declared.Child.the-variants.{Node, Missing, Damaged}
-use Rattle.sublist_walk.specs.declared.Failure.the-variants as failure
+use Rattle.sublist_area_rules.proofs.Child.{the-type}
+use Rattle.sublist_area_rules.specs.declared.Child.{Child}
+use Rattle.sublist_area_rules.specs.declared.Child.the-variants.{Node, Missing, Damaged}
+use Rattle.sublist_walk_rules.specs.declared.Failure.the-variants as failure
 use Rattle.sublist_walk.specs.declared.Front.{Front}
-use Rattle.sublist_walk.specs.Walk.{among, level, push}
+use Rattle.sublist_walk_rules.specs.Walk.{among, level, push}
 use Rattle.sublist_walk.specs.Told.{missed, fronted, within}
 use Rattle.sublist_walk.specs.declared.Front.the-variants as front
 

@@ -8,15 +8,15 @@ use mathlib.Core.List.{List, [], _∷_, _++_, append-nil, append-assoc}
 use lib.Dec.{leb, ltb}
 use lib.ListN.{length, getD, take, drop, length-append}
 use lib.Seq.{length-take-le, take-suc, take-take, getD-take, split-at}
-use Rattle.subject.specs.Choice.{pick}
-use Rattle.sublist_area.specs.declared.Child.{Child}
-use Rattle.sublist_area.specs.declared.Child.the-variants.{Node, Missing, Damaged}
-use Rattle.sublist_area.specs.Words.{word}
-use Rattle.sublist_walk.specs.declared.Failure.{Failure}
-use Rattle.sublist_walk.specs.declared.Failure.the-variants as failure
-use Rattle.sublist_walk.specs.Walk.{part, among, Level, level, broken, collect, push, pushes, children, visit, visits, exact}
+use Rattle.subject_rules.specs.Choice.{pick}
+use Rattle.sublist_area_rules.specs.declared.Child.{Child}
+use Rattle.sublist_area_rules.specs.declared.Child.the-variants.{Node, Missing, Damaged}
+use Rattle.sublist_area_rules.specs.Words.{word}
+use Rattle.sublist_walk_rules.specs.declared.Failure.{Failure}
+use Rattle.sublist_walk_rules.specs.declared.Failure.the-variants as failure
+use Rattle.sublist_walk_rules.specs.Walk.{part, among, Level, level, broken, collect, push, pushes, children, visit, visits, exact}
 use Rattle.sublist_walk.specs.Told.{Added}
-use Rattle.sublist_walk.proofs.Parts.{sets-append}
+use Rattle.sublist_walk_rules.proofs.Parts.{sets-append}
 
 -- nothing yet
 pub listed-none : (at : ℕ) (out : List ℕ) → Added (level [] []) [] at at 0 out out
@@ -213,12 +213,6 @@ module _ (k : ℕ) (a : List ℕ) (n m : ℕ) (ts : List ℕ) where
   unfolding exact collect
   exact-broken why [] = refl
   exact-broken why (i ∷ is) = exact-broken why is
-
-  -- neither limit nor node count matters
-  pub exact-any : (s : Level) (is : List ℕ) → exact k a n m ts s is ≡ exact 0 a 0 m ts s is
-  unfolding exact
-  exact-any s [] = refl
-  exact-any s (i ∷ is) = exact-any (collect a m ts 4 i s) is
 
   exact-through : (l : List ℕ) (s : Level) (is : List ℕ) → exact k a n m ts (behind l s) is ≡ behind l (exact k a n m ts s is)
   unfolding exact

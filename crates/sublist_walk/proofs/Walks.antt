@@ -5,22 +5,23 @@ use mathlib.Core.Path.{_≡_, refl, sym, _∙_}
 use mathlib.Core.List.{List, [], _∷_, _++_, map}
 use lib.ListN.{length, take, set, length-append}
 use lib.Seq.{take-suc-set, sets}
-use Rattle.subject.specs.Text.{tokens}
+use Rattle.subject_rules.specs.Text.{tokens}
 use Rattle.subject.specs.declared.Token.{Token}
 use Rattle.subject.specs.declared.Token.the-variants.{Part, End}
-use Rattle.subject.specs.Fnv.{fnv}
+use Rattle.subject_rules.specs.Fnv.{fnv}
 use Rattle.subject.specs.Reading.{tokensFrom, tokenAt}
 use Rattle.subject.proofs.Positions.{tokens-start, tokens-end}
 use Rattle.subject.proofs.Places.{part-found, end-found}
-use Rattle.sublist_walk.specs.Walk.{part, level, broken, at, stuck, Walked, failed, visits, arrived, onToken, onTokens, exact, listed, ended, walkOver}
-use Rattle.sublist_walk.specs.declared.Failure.{Failure}
-use Rattle.sublist_walk.specs.declared.Failure.the-variants as failure
+use Rattle.sublist_walk_rules.specs.Walk.{part, level, broken, at, stuck, Walked, failed, visits, arrived, onToken, onTokens, exact, listed, ended, walkOver}
+use Rattle.sublist_walk_rules.specs.declared.Failure.{Failure}
+use Rattle.sublist_walk_rules.specs.declared.Failure.the-variants as failure
 use Rattle.sublist_walk.specs.declared.Collected.{Collected}
 use Rattle.sublist_walk.specs.declared.Collected.the-variants as collected
 use Rattle.sublist_walk.specs.declared.Walked as declared
 use Rattle.sublist_walk.specs.Told.{Added, Lists, Finds, Ends, finished}
-use Rattle.sublist_walk.proofs.Parts.{sets-behind}
-use Rattle.sublist_walk.proofs.Visits.{all-failed, all-on, exact-any, exact-listed, exact-failed}
+use Rattle.sublist_walk_rules.proofs.Parts.{sets-behind}
+use Rattle.sublist_walk.proofs.Visits.{all-failed, all-on, exact-listed, exact-failed}
+use Rattle.sublist_walk_rules.proofs.Narrow.{exact-any}
 
 -- a frontier, and the list and the peak so far: with the hashes left the walk ends with w. The place in the subject bounds the list's size: 2^42 for each token passed
 pub record Under (w : Walked) (k : ℕ) (a : List ℕ) (n m : ℕ) (ts front : List ℕ) (peak size place : ℕ) (hs out now : List ℕ) : Type 0 where

@@ -12,28 +12,30 @@ use types.Run.{OneOf}
 use lib.Dec.{eqb, ltb, leb}
 use lib.ListN.{length, drop}
 use lib.Seq.{sets, sets-eq, length-sets, take-append-seam}
-use borrow.Author.Tests.{lt-ltb, le-ltb, le-leb, lt-leb, ltb-false, leb-true}
-use Rattle.subject.specs.Choice.{pick, and}
-use Rattle.subject.specs.Text.{tokens}
-use Rattle.subject.specs.Fnv.{fnv}
-use Rattle.subject.specs.Utf8.{firstBad}
-use Rattle.subject.specs.Answers.{Answer, answer, refusal, parsed, unless, whenAccepted}
-use Rattle.subject.specs.Grammar.{check, notUtf8, grammar}
+use borrow.Author.Tests.{lt-ltb, le-ltb, le-leb, lt-leb, leb-true}
+use Rattle.subject_rules.specs.Choice.{pick, and}
+use Rattle.subject_rules.specs.Text.{tokens}
+use Rattle.subject_rules.specs.Fnv.{fnv}
+use Rattle.subject_rules.specs.Utf8.{firstBad}
+use Rattle.subject_rules.specs.Answers.{Answer, answer, unless, whenAccepted}
+use Rattle.subject.specs.Answers.{refusal, parsed}
+use Rattle.subject_rules.specs.Grammar.{check, notUtf8, grammar}
 use Rattle.subject.specs.declared.SubjectError.{SubjectError}
 use Rattle.subject.specs.declared.SubjectError.the-variants.{TooLong, NotUtf8, Empty, TailWildcardNotLast, TooDeep, EmptyToken, WildcardNotAllowed, ControlChar, IllegalChar}
 use Rattle.subject.specs.declared.Parsed.{Parsed}
 use Rattle.subject.specs.declared.Parsed.the-variants.{Accepted, Refused}
-use Rattle.sublist_walk.specs.Walk.{part, Walked, found, failed, walkOver}
+use Rattle.sublist_walk_rules.specs.Walk.{part, Walked, found, failed, walkOver}
 use Rattle.subject.proofs.Refusals.{refused-stands}
-use Rattle.sublist_walk.specs.Matching.{Outcome, outcome, matchAnswer, over, countsFit, written, ifSubject, matchTable, matchParsed}
+use Rattle.sublist_walk_rules.specs.Matching.{Outcome, outcome, over, countsFit, written, ifSubject, matchTable, matchParsed}
+use Rattle.sublist_walk.specs.Answers.{matchAnswer}
 use Rattle.sublist_walk.specs.Told.{walkOf, Finds, Ends, Holding, Wrote, tried, settled, Answers, Tries}
 use Rattle.sublist_walk.specs.declared.TableMatch.{TableMatch}
 use Rattle.sublist_walk.specs.declared.TableMatch.the-variants as match
 use Rattle.sublist_walk.specs.declared.Tried.{Tried}
 use Rattle.sublist_walk.specs.declared.Tried.the-variants as try
-use Rattle.sublist_walk.specs.declared.Failure.{Failure}
-use Rattle.sublist_walk.specs.declared.Failure.the-variants as failure
-use Rattle.sublist_walk.proofs.Narrow.{narrow}
+use Rattle.sublist_walk_rules.specs.declared.Failure.{Failure}
+use Rattle.sublist_walk_rules.specs.declared.Failure.the-variants as failure
+use Rattle.sublist_walk_rules.proofs.Narrow.{narrow}
 use Rattle.sublist_walk.proofs.Tried.{the-type}
 use Rattle.sublist_walk.specs.declared.Walked as declared
 use Rattle.sublist_walk.specs.declared.Walked.the-variants as walked

@@ -1,5 +1,4 @@
--- The walk of a subject over a table, the call `match_table`, and what it means that an area holds a tree.
-pub mod Walk
-pub mod Matching
-pub mod Holds
+-- 01's numbers and values of the answers.
+pub mod Answers
+-- Only private contracts cite this: what the parts of a match tell each other.
 pub mod Told

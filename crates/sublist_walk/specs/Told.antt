@@ -5,12 +5,12 @@ use mathlib.Core.Logic.{_⊎_}
 use mathlib.Core.List.{List, [], map}
 use lib.ListN.{length, take}
 use lib.Seq.{sets}
-use Rattle.subject.specs.Text.{tokens}
-use Rattle.subject.specs.Fnv.{fnv}
-use Rattle.sublist_area.specs.declared.Child.{Child}
-use Rattle.sublist_area.specs.declared.Child.the-variants as child
-use Rattle.sublist_walk.specs.declared.Failure.{Failure}
-use Rattle.sublist_walk.specs.declared.Failure.the-variants as failure
+use Rattle.subject_rules.specs.Text.{tokens}
+use Rattle.subject_rules.specs.Fnv.{fnv}
+use Rattle.sublist_area_rules.specs.declared.Child.{Child}
+use Rattle.sublist_area_rules.specs.declared.Child.the-variants as child
+use Rattle.sublist_walk_rules.specs.declared.Failure.{Failure}
+use Rattle.sublist_walk_rules.specs.declared.Failure.the-variants as failure
 use Rattle.sublist_walk.specs.declared.TableMatch.{TableMatch}
 use Rattle.sublist_walk.specs.declared.TableMatch.the-variants as match
 use Rattle.sublist_walk.specs.declared.Tried.{Tried}
@@ -23,8 +23,9 @@ use Rattle.sublist_walk.specs.declared.Step.{Step}
 use Rattle.sublist_walk.specs.declared.Step.the-variants as step
 use Rattle.sublist_walk.specs.declared.Walked as declared
 use Rattle.sublist_walk.specs.declared.Walked.the-variants as walked
-use Rattle.sublist_walk.specs.Walk.{Level, level, broken, Walked, found, failed, walkOver}
-use Rattle.sublist_walk.specs.Matching.{outcome, matchAnswer, written}
+use Rattle.sublist_walk_rules.specs.Walk.{Level, level, broken, Walked, found, failed, walkOver}
+use Rattle.sublist_walk_rules.specs.Matching.{outcome, written}
+use Rattle.sublist_walk.specs.Answers.{matchAnswer}
 
 -- the walk of a subject within a limit
 abbrev pub walkOf : ℕ → ℕ → ℕ → List ℕ → List ℕ → List ℕ → Walked

@@ -4,18 +4,21 @@ ghost use mathlib.Core.List.{[]};
 ghost use Prim.Native.Nat.{_+_, _-_, _/_, _≤_, _<_, _^_, max};
 ghost use lib.ListN.{length, take, getD};
 ghost use lib.Seq.{sets};
-ghost use Rattle.subject.specs.Answers.{answer, parsed, whenAccepted};
-ghost use Rattle.sublist_walk.specs.Walk.{part, among, level, collect, push, pushes, children};
-ghost use Rattle.sublist_walk.specs.Walk.{visit, visits, exact};
-ghost use Rattle.sublist_walk.specs.Matching.{outcome, matchAnswer, countsFit, written, matchParsed, matchTable};
+ghost use Rattle.subject_rules.specs.Answers.{answer, whenAccepted};
+ghost use Rattle.subject.specs.Answers.{parsed};
+ghost use Rattle.sublist_walk_rules.specs.Walk.{part, among, level, collect, push, pushes, children};
+ghost use Rattle.sublist_walk_rules.specs.Walk.{visit, visits, exact};
+ghost use Rattle.sublist_walk_rules.specs.Matching.{outcome, countsFit, written, matchParsed, matchTable};
+ghost use Rattle.sublist_walk.specs.Answers.{matchAnswer};
 ghost use Rattle.sublist_walk.specs.Told.{walkOf, missed, fronted, within, finished, tried, settled};
 ghost use Rattle.sublist_walk.specs.Told.{Turn, Lists, Reaches, Ends, Holding, Wrote, Tries};
 use subject::MAX_TEXT;
 use subject::Parsed;
 use subject::SubjectError;
 use subject::Token;
-use sublist_area::Child;
 use sublist_area::NODE_WORDS;
+use sublist_area_rules::Child;
+use sublist_walk_rules::Failure;
 
 // The most nodes that a frontier may hold.
 pub const MAX_FORK_FRONTIER: usize = 1024;
@@ -39,12 +42,6 @@ pub enum TableMatch {
     Invalid(SubjectError),
     Damaged,
     OutShort(usize),
-}
-
-// Why a walk fails: a frontier would pass its limit, or a number points outside.
-enum Failure {
-    Wide,
-    Damaged,
 }
 
 // A frontier of so many nodes.

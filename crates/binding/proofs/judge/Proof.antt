@@ -1,7 +1,7 @@
 -- `binding::judge` meets its contract. Assumes nothing.
 use borrow.Author.Needs.{needs}
 use mathlib.Core.Path.{ap}
-use Rattle.resolve_cache.specs.Cache.{handed}
+use Rattle.resolve_cache_rules.specs.Cache.{handed}
 use Rattle.resolve_cache.specs.Answers.{resolveAnswer}
 use Rattle.binding.proofs.Judging.{list-judged, invalid-down}
 use Rattle.binding.proofs.judge.Statement.{statement}

@@ -7,7 +7,7 @@ use lib.ListN.{length}
 use lib.Seq.{length-take-le}
 use Rattle.subject.specs.declared.Parsed.the-variants.{Refused}
 use Rattle.subject.proofs.Refusals.{refused-stands}
-use Rattle.sublist_walk.specs.Matching.{outcome}
+use Rattle.sublist_walk_rules.specs.Matching.{outcome}
 use Rattle.sublist_snapshot.specs.declared.SnapshotMatch.{SnapshotMatch}
 use Rattle.sublist_snapshot.specs.declared.SnapshotMatch.the-variants.{Listed, Invalid, Damaged, OutShort}
 use Rattle.sublist_snapshot.specs.Snapshot.{matchIn}
@@ -23,7 +23,7 @@ told : (k : tie.After-match-into) (m : SnapshotMatch) → k .match-into .result 
 told k m q = ap (λ x. outcome (snapshotAnswer x) (k .match-into .last .1 .1 .1 .0)) (sym q) ∙ k .match-into .ensures
 
 -- its list lies within the output
-inside : (x : tie.After-count) → x .count .given .0 .0 ≤ length (x .before .before .before .before .match-into .last .1 .1 .1 .0)
+inside : (x : tie.After-count) → let k = x .before .before .before .before in x .count .given .0 .0 ≤ length (k .match-into .last .1 .1 .1 .0)
 inside x =
     let k = x .before .before .before .before in
     let a = k .before .before .before .before .before .args in
@@ -52,7 +52,8 @@ slice-reshare-prefix-single-home c = inside (c .before)
 slice-aggregate-single-home : tie.Need-slice-aggregate-single-home
 slice-aggregate-single-home c =
     let x = c .before .before in
-    sym (length-take-le (x .count .given .0 .0) (x .before .before .before .before .match-into .last .1 .1 .1 .0) (inside x))
+    let k = x .before .before .before .before in
+    sym (length-take-le (x .count .given .0 .0) (k .match-into .last .1 .1 .1 .0) (inside x))
 
 single-home-requires : tie.Need-single-home-requires
 single-home-requires c κs = search needs

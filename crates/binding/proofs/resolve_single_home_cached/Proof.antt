@@ -1,6 +1,6 @@
 -- `binding::resolve_single_home_cached` meets its contract. Assumes nothing.
 use borrow.Author.Needs.{needs}
-use Rattle.resolve_cache.specs.Answers.{lent}
+use Rattle.resolve_cache_rules.specs.Answers.{lent}
 use Rattle.binding.proofs.Judging.{resolve-judged}
 use Rattle.binding.proofs.resolve_single_home_cached.Statement.{statement}
 use Rattle.binding.proofs.resolve_single_home_cached.Tie as tie

@@ -6,12 +6,12 @@ use mathlib.Core.Bool.{false}
 use lib.ListN.{length}
 use borrow.Author.Needs.{needs}
 use borrow.Author.Tests.{not-true, not-false}
-use Rattle.resolve_cache.specs.Cache.{short, bad, adopt, findFrom}
-use Rattle.resolve_cache.specs.Answers.{lent}
+use Rattle.resolve_cache_rules.specs.Cache.{short, bad, adopt, findFrom}
+use Rattle.resolve_cache_rules.specs.Answers.{lent}
 use Rattle.resolve_cache.specs.Deciding.{seen, Decides}
 use Rattle.resolve_cache.proofs.Decisions.{good-ready, good-small, adopt-used, text-refused}
 use Rattle.resolve_cache.proofs.Decisions.{refused-short, refused-bad, refused-damaged, looked}
-use Rattle.resolve_cache.proofs.Slots.{short-wide}
+use Rattle.resolve_cache_rules.proofs.Slots.{short-wide}
 use Rattle.resolve_cache.proofs.decide.Statement.{statement}
 use Rattle.resolve_cache.proofs.decide.Tie as tie
 

@@ -6,7 +6,7 @@ use mathlib.Core.Path.{_≡_, sym, _∙_, ap}
 use mathlib.Core.List.{List}
 use lib.ListN.{length}
 use borrow.Author.Needs.{needs}
-use Rattle.resolve_cache.specs.Cache.{findFrom}
+use Rattle.resolve_cache_rules.specs.Cache.{findFrom}
 use Rattle.resolve_cache.proofs.Scans.{find-end, found-here, look-on, passed-over}
 use Rattle.resolve_cache.proofs.find.Statement.{statement}
 use Rattle.resolve_cache.proofs.find.Tie as tie

@@ -6,7 +6,7 @@ use mathlib.Core.Path.{_≡_, sym, _∙_, ap}
 use mathlib.Core.List.{List}
 use lib.ListN.{length}
 use borrow.Author.Needs.{needs}
-use Rattle.resolve_cache.specs.Cache.{badFrom}
+use Rattle.resolve_cache_rules.specs.Cache.{badFrom}
 use Rattle.resolve_cache.proofs.Scans.{bad-slot, good-slot}
 use Rattle.resolve_cache.proofs.has_bad_slot.Statement.{statement}
 use Rattle.resolve_cache.proofs.has_bad_slot.Tie as tie

@@ -2,10 +2,10 @@
 -- Assumes nothing.
 use Prim.Native.Nat.{_+_, _*_, _-_, _≤_}
 use native.Mathlib.Omega.{arith}
-use mathlib.Core.Path.{_≡_, refl, sym, _∙_, ap}
+use mathlib.Core.Path.{_≡_, refl, sym, _∙_}
 use lib.ListN.{length}
 use borrow.Author.Needs.{needs}
-use Rattle.resolve_cache.specs.Cache.{badFrom}
+use Rattle.resolve_cache_rules.specs.Cache.{badFrom}
 use Rattle.resolve_cache.proofs.Scans.{bad-end, bad-slot, good-slot}
 use Rattle.resolve_cache.proofs.has_bad_slot_from.Statement.{statement}
 use Rattle.resolve_cache.proofs.has_bad_slot_from.Tie as tie

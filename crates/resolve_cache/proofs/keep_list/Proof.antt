@@ -4,8 +4,8 @@ use mathlib.Core.Path.{_≡_, sym, _∙_}
 use mathlib.Core.Bool.{true}
 use borrow.Author.Needs.{needs}
 use borrow.Author.Tests.{not-true, not-false}
-use Rattle.resolve_cache.specs.Cache.{qualifies}
-use Rattle.resolve_cache.specs.Answers.{lent}
+use Rattle.resolve_cache_rules.specs.Cache.{qualifies}
+use Rattle.resolve_cache_rules.specs.Answers.{lent}
 use Rattle.resolve_cache.proofs.Keeping.{kept-sizes, unkept, list-kept}
 use Rattle.resolve_cache.proofs.keep_list.Statement.{statement}
 use Rattle.resolve_cache.proofs.keep_list.Tie as tie

@@ -4,8 +4,8 @@ use native.Mathlib.Omega.{arith}
 use mathlib.Core.Path.{_≡_, _∙_, ap}
 use lib.ListN.{take, drop}
 use borrow.Author.Needs.{needs}
-use Rattle.subject.specs.Text.{same}
-use Rattle.resolve_cache.specs.Area.{keyLength}
+use Rattle.subject_rules.specs.Text.{same}
+use Rattle.resolve_cache_rules.specs.Area.{keyLength}
 use Rattle.resolve_cache.proofs.keeps.Statement.{statement}
 use Rattle.resolve_cache.proofs.keeps.Tie as tie
 

@@ -6,9 +6,9 @@ use mathlib.Core.Option.{some}
 use borrow.Author.Needs.{needs}
 use borrow.Author.Tests.{lt-ltb, le-ltb}
 use Rattle.resolve_cache.specs.declared.Slot.the-variants.{At}
-use Rattle.resolve_cache.specs.Cache.{findFrom}
+use Rattle.resolve_cache_rules.specs.Cache.{findFrom}
 use Rattle.resolve_cache.specs.Deciding.{slotOf, seen}
-use Rattle.resolve_cache.proofs.Slots.{find-sound}
+use Rattle.resolve_cache_rules.proofs.Slots.{find-sound}
 use Rattle.resolve_cache.proofs.look_up.Statement.{statement}
 use Rattle.resolve_cache.proofs.look_up.Tie as tie
 

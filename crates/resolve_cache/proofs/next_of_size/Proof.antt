@@ -4,7 +4,7 @@ use native.Mathlib.Omega.{arith}
 use mathlib.Core.Path.{_≡_}
 use lib.ListN.{length}
 use borrow.Author.Needs.{needs}
-use Rattle.resolve_cache.specs.Area.{keyLength}
+use Rattle.resolve_cache_rules.specs.Area.{keyLength}
 use Rattle.resolve_cache.proofs.Scans.{one-more}
 use Rattle.resolve_cache.proofs.next_of_size.Statement.{statement}
 use Rattle.resolve_cache.proofs.next_of_size.Tie as tie

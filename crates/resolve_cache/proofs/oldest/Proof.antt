@@ -9,9 +9,9 @@ use lib.Dec.{ltb}
 use lib.ListN.{length}
 use borrow.Author.Needs.{needs}
 use borrow.Author.Tests.{lt-ltb, le-ltb}
-use Rattle.subject.specs.Choice.{pick}
-use Rattle.resolve_cache.specs.Area.{stampAt}
-use Rattle.resolve_cache.specs.Cache.{oldestFrom}
+use Rattle.subject_rules.specs.Choice.{pick}
+use Rattle.resolve_cache_rules.specs.Area.{stampAt}
+use Rattle.resolve_cache_rules.specs.Cache.{oldestFrom}
 use Rattle.resolve_cache.proofs.Scans.{oldest-end, oldest-turn}
 use Rattle.resolve_cache.proofs.oldest.Statement.{statement}
 use Rattle.resolve_cache.proofs.oldest.Tie as tie

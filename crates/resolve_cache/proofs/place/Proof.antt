@@ -3,7 +3,7 @@ use Prim.Native.Nat.{_-_}
 use native.Mathlib.Omega.{arith}
 use borrow.Author.Needs.{needs}
 use borrow.Author.Tests.{lt-ltb, le-ltb}
-use Rattle.resolve_cache.proofs.Slots.{oldest-below}
+use Rattle.resolve_cache_rules.proofs.Slots.{oldest-below}
 use Rattle.resolve_cache.proofs.place.Statement.{statement}
 use Rattle.resolve_cache.proofs.place.Tie as tie
 

@@ -1,7 +1,7 @@
 -- `resolve_cache::refused` meets its contract. Assumes nothing.
 use mathlib.Core.List.{[]}
 use borrow.Author.Needs.{needs}
-use Rattle.subject.specs.Answers.{answer}
+use Rattle.subject_rules.specs.Answers.{answer}
 use Rattle.subject.proofs.Refusals.{refused-stands}
 use Rattle.resolve_cache.proofs.refused.Statement.{statement}
 use Rattle.resolve_cache.proofs.refused.Tie as tie

@@ -4,7 +4,7 @@ use mathlib.Core.Path.{refl, _∙_, ap}
 use mathlib.Core.List.{[], _∷_}
 use borrow.Author.Needs.{needs}
 use Rattle.sublist_tree.specs.Lists.{put}
-use Rattle.resolve_cache.specs.Cache.{adopt, ticked, hit}
+use Rattle.resolve_cache_rules.specs.Cache.{adopt, ticked, hit}
 use Rattle.resolve_cache.proofs.show.Statement.{statement}
 use Rattle.resolve_cache.proofs.show.Tie as tie
 

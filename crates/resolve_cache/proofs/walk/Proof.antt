@@ -6,16 +6,16 @@ use lib.ListN.{length}
 use lib.Seq.{length-take-le}
 use borrow.Author.Needs.{needs}
 use Rattle.subject.specs.declared.Parsed.the-variants.{Refused}
-use Rattle.subject.specs.Answers.{Answer, whenAccepted}
+use Rattle.subject_rules.specs.Answers.{Answer, whenAccepted}
 use Rattle.subject.proofs.Refusals.{refused-stands}
-use Rattle.sublist_walk.specs.Matching.{outcome}
+use Rattle.sublist_walk_rules.specs.Matching.{outcome}
 use Rattle.sublist_snapshot.specs.declared.SnapshotMatch.{SnapshotMatch}
 use Rattle.sublist_snapshot.specs.declared.SnapshotMatch.the-variants.{Listed, Invalid, Damaged, OutShort}
 use Rattle.sublist_snapshot.specs.Snapshot.{matchIn}
 use Rattle.sublist_snapshot.specs.Answers.{snapshotAnswer}
 use Rattle.sublist_snapshot.proofs.Fronts.{parsed-match}
-use Rattle.resolve_cache.specs.Cache.{adopt, Resolved}
-use Rattle.resolve_cache.specs.Answers.{lent}
+use Rattle.resolve_cache_rules.specs.Cache.{adopt, Resolved}
+use Rattle.resolve_cache_rules.specs.Answers.{lent}
 use Rattle.resolve_cache.specs.Deciding.{walking}
 use Rattle.resolve_cache.proofs.Keeping.{ready-current, Lists, walk-refused, walk-lists, kept-walk}
 use Rattle.resolve_cache.proofs.walk.Statement.{statement}

@@ -1,6 +1,6 @@
 -- `router_bytes::put_back` meets its contract: an accepted match stores its words, a refused one nothing.
 use borrow.Author.Needs.{needs}
-use Rattle.sublist_walk.specs.Matching.{matchAnswer}
+use Rattle.sublist_walk.specs.Answers.{matchAnswer}
 use Rattle.router_bytes.proofs.Copies.{accepted-match, refused-match}
 use Rattle.router_bytes.proofs.put_back.Statement.{statement}
 use Rattle.router_bytes.proofs.put_back.Tie as tie

@@ -4,7 +4,7 @@ use Prim.Native.Nat.{_+_, _≤_}
 use lib.ListN.{length}
 use borrow.Author.Tests.{ltb-false}
 use borrow.Author.Needs.{needs}
-use Rattle.resolve_cache.specs.Answers.{lent}
+use Rattle.resolve_cache_rules.specs.Answers.{lent}
 use Rattle.router_bytes.specs.Bytes.{copyBytes}
 use Rattle.router_bytes.proofs.Resolving.{too-many-bytes, few-bytes}
 use Rattle.router_bytes.proofs.resolve_bytes.Statement.{statement}

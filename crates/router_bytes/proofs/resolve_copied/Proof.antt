@@ -4,7 +4,7 @@ use Prim.Native.Nat.{_*_, _≤_}
 use native.Mathlib.Omega.{arith}
 use lib.ListN.{length}
 use borrow.Author.Needs.{needs}
-use Rattle.resolve_cache.specs.Answers.{lent}
+use Rattle.resolve_cache_rules.specs.Answers.{lent}
 use Rattle.router_bytes.proofs.Resolving.{accepted-bytes, refused-bytes}
 use Rattle.router_bytes.proofs.resolve_copied.Statement.{statement}
 use Rattle.router_bytes.proofs.resolve_copied.Tie as tie

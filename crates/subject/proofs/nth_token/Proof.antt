@@ -54,7 +54,7 @@ use denote.Triple.Table.{entered, cited}
 use denote.Triple.Walked.{says, Stays, stay-none, stay-none-slice, walkOf, goes-none, goes-none-slice, Walks, ends-at, walked, walk-meets}
 use denote.Exit.{yes}
 use denote.Triple.Clauses.{ensured, lasts}
-use Rattle.subject.specs.Text.{tokens}
+use Rattle.subject_rules.specs.Text.{tokens}
 use Rattle.subject.specs.Reading.{tokenAt, past, placeIn}
 use Rattle.subject.specs.declared.Tokens.{Tokens}
 use Rattle.subject.specs.declared.Token.{Token}

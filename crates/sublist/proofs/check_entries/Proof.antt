@@ -4,7 +4,7 @@ use native.Mathlib.Nat.{sub-zero}
 use mathlib.Core.Path.{_≡_}
 use borrow.Author.Needs.{needs}
 use lib.ListN.{drop}
-use Rattle.sublist.specs.Building.{badEntries}
+use Rattle.sublist_rules.specs.Building.{badEntries}
 use Rattle.sublist_entries.specs.Numbers.{unflat}
 use Rattle.sublist.proofs.Checks.{checks-end, checks-on, checks-bad}
 use Rattle.sublist.proofs.check_entries.Statement.{statement}

@@ -1,6 +1,6 @@
 -- `sublist::count_end` meets its contract. Assumes nothing.
 use borrow.Author.Needs.{needs}
-use Rattle.sublist.specs.Passes.{counted}
+use Rattle.sublist_rules.specs.Passes.{counted}
 use Rattle.sublist.proofs.count_end.Statement.{statement}
 use Rattle.sublist.proofs.count_end.Tie as tie
 

@@ -2,8 +2,9 @@
 use mathlib.Core.Path.{_∙_}
 use borrow.Author.Needs.{needs}
 use Rattle.sublist_entries.specs.Numbers.{unflat}
-use Rattle.sublist.specs.Core.{endsOf, targetsOf}
-use Rattle.sublist.proofs.Stages.{over, within, short-targets, over-limit, within-limit}
+use Rattle.sublist_rules.specs.Core.{endsOf, targetsOf}
+use Rattle.sublist_rules.proofs.Over.{over, within}
+use Rattle.sublist.proofs.Stages.{short-targets, over-limit, within-limit}
 use Rattle.sublist.proofs.finish.Statement.{statement}
 use Rattle.sublist.proofs.finish.Tie as tie
 

@@ -8,10 +8,10 @@ use mathlib.Core.Option.{none}
 use borrow.Author.Needs.{needs}
 use lib.ListN.{length, drop, length-set}
 use Rattle.sublist_entries.specs.Entries.{linesOf}
-use Rattle.sublist.specs.Building.{badEntries}
-use Rattle.sublist.specs.Passes.{growth, linesIn}
+use Rattle.sublist_rules.specs.Building.{badEntries}
+use Rattle.sublist_rules.specs.Passes.{growth, linesIn}
 use Rattle.sublist_entries.specs.Numbers.{unflat}
-use Rattle.sublist.specs.Core.{endsOf, EndBelow}
+use Rattle.sublist_rules.specs.Core.{endsOf, EndBelow}
 use Rattle.sublist.proofs.Checks.{sound-inside, sound-on}
 use Rattle.sublist.proofs.Lines.{lines-end, lines-stop, lines-on, below-more, end-node}
 use Rattle.sublist.proofs.insert_entries.Statement.{statement}

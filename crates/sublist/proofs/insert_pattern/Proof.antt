@@ -4,13 +4,13 @@ use native.Mathlib.Omega.{arith}
 use mathlib.Core.Path.{_≡_, refl, _∙_}
 use borrow.Author.Needs.{needs}
 use lib.ListN.{length}
-use Rattle.subject.specs.Text.{tokens}
+use Rattle.subject_rules.specs.Text.{tokens}
 use Rattle.subject.specs.Reading.{tokensFrom}
-use Rattle.subject.specs.Fnv.{fnv}
+use Rattle.subject_rules.specs.Fnv.{fnv}
 use Rattle.subject.proofs.Positions.{tokens-start}
 use Rattle.sublist_tree.specs.Tree.{lineOf}
-use Rattle.sublist_area.specs.declared.Placed.the-variants.{At}
-use Rattle.sublist.specs.Core.{runIn}
+use Rattle.sublist_area_rules.specs.declared.Placed.the-variants.{At}
+use Rattle.sublist_rules.specs.Core.{runIn}
 use Rattle.sublist.proofs.Cutting.{end-met, part-bounds, part-met}
 use Rattle.sublist.proofs.Places.{place-fits}
 use Rattle.sublist.proofs.Runs.{run-end, run-tail, run-on, run-full, run-broken}

@@ -4,7 +4,7 @@ use native.Mathlib.Nat.{sub-zero}
 use mathlib.Core.Path.{_≡_, refl, sym, _∙_}
 use borrow.Author.Needs.{needs}
 use lib.ListN.{length}
-use Rattle.sublist.specs.Passes.{laid}
+use Rattle.sublist_rules.specs.Passes.{laid}
 use Rattle.sublist.proofs.Turns.{lay-on, lay-end}
 use Rattle.sublist.proofs.lay.Statement.{statement}
 use Rattle.sublist.proofs.lay.Tie as tie

@@ -1,6 +1,6 @@
 -- `sublist::lay_node` meets its contract. Assumes nothing.
 use borrow.Author.Needs.{needs}
-use Rattle.sublist.specs.Passes.{laidAt}
+use Rattle.sublist_rules.specs.Passes.{laidAt}
 use Rattle.sublist.proofs.lay_node.Statement.{statement}
 use Rattle.sublist.proofs.lay_node.Tie as tie
 

@@ -3,7 +3,7 @@ use borrow.Author.Needs.{needs}
 use mathlib.Core.Path.{_≡_, sym, _∙_, ap}
 use Prim.Native.Nat.{_+_, _*_, _≤_, _-_}
 use native.Mathlib.Omega.{arith}
-use Rattle.sublist.specs.Building.{needed}
+use Rattle.sublist_rules.specs.Building.{needed}
 use Rattle.sublist_entries.specs.Numbers.{unflat}
 use Rattle.sublist.proofs.OneMore.{longest-all, needed-none, textAt, needed-next, entry-within, entry-keys}
 use Rattle.sublist.proofs.nodes_needed.Statement.{statement}

@@ -1,6 +1,6 @@
 -- `sublist::put_target` meets its contract. Assumes nothing.
 use borrow.Author.Needs.{needs}
-use Rattle.sublist.specs.Passes.{filledBy}
+use Rattle.sublist_rules.specs.Passes.{filledBy}
 use Rattle.sublist.proofs.put_target.Statement.{statement}
 use Rattle.sublist.proofs.put_target.Tie as tie
 

@@ -5,9 +5,9 @@ use native.Mathlib.Omega.{arith}
 use mathlib.Core.Path.{_≡_, refl, sym, _∙_}
 use borrow.Author.Needs.{needs}
 use lib.ListN.{length, drop}
-use Rattle.sublist.specs.Passes.{filling, filled}
+use Rattle.sublist_rules.specs.Passes.{filling, filled}
 use Rattle.sublist_entries.specs.Numbers.{unflat}
-use Rattle.sublist.specs.Core.{endsOf, targetsOf}
+use Rattle.sublist_rules.specs.Core.{endsOf, targetsOf}
 use Rattle.sublist.proofs.Turns.{fill-on, fill-end}
 use Rattle.sublist.proofs.put_targets.Statement.{statement}
 use Rattle.sublist.proofs.put_targets.Tie as tie

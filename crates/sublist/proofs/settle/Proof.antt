@@ -3,7 +3,7 @@ use Prim.Native.Nat.{_-_, _<_}
 use mathlib.Core.Path.{_≡_, refl, sym, _∙_}
 use borrow.Author.Needs.{needs}
 use lib.ListN.{length}
-use Rattle.sublist.specs.Passes.{settled}
+use Rattle.sublist_rules.specs.Passes.{settled}
 use Rattle.sublist.proofs.Turns.{settle-on, settle-end}
 use Rattle.sublist.proofs.settle.Statement.{statement}
 use Rattle.sublist.proofs.settle.Tie as tie

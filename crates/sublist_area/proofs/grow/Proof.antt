@@ -1,6 +1,6 @@
 -- `sublist_area::grow` meets its contract. Assumes nothing.
 use borrow.Author.Needs.{needs}
-use Rattle.sublist_area.proofs.Ways.{way-node, way-broken, way-full, way-many, way-new}
+use Rattle.sublist_area_rules.proofs.Ways.{way-node, way-broken, way-full, way-many, way-new}
 use Rattle.sublist_area.proofs.grow.Statement.{statement}
 use Rattle.sublist_area.proofs.grow.Tie as tie
 

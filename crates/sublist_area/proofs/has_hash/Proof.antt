@@ -1,6 +1,6 @@
 -- `sublist_area::has_hash` meets its contract. Assumes nothing.
 use borrow.Author.Needs.{needs}
-use Rattle.sublist_area.proofs.Ways.{hash-low, hash-high}
+use Rattle.sublist_area_rules.proofs.Ways.{hash-low, hash-high}
 use Rattle.sublist_area.proofs.has_hash.Statement.{statement}
 use Rattle.sublist_area.proofs.has_hash.Tie as tie
 

@@ -2,7 +2,7 @@
 use native.Mathlib.Omega.{arith}
 use mathlib.Core.Path.{_∙_}
 use borrow.Author.Needs.{needs}
-use Rattle.sublist_area.proofs.Ways.{literal-short, literal-beyond, literal-sought}
+use Rattle.sublist_area_rules.proofs.Ways.{literal-short, literal-beyond, literal-sought}
 use Rattle.sublist_area.proofs.literal_child.Statement.{statement}
 use Rattle.sublist_area.proofs.literal_child.Tie as tie
 

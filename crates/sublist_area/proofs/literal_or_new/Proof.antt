@@ -1,7 +1,7 @@
 -- `sublist_area::literal_or_new` meets its contract. Assumes nothing.
 use mathlib.Core.Path.{sym, _∙_}
 use borrow.Author.Needs.{needs}
-use Rattle.sublist_area.proofs.Ways.{missing-literal, literal-placed}
+use Rattle.sublist_area_rules.proofs.Ways.{missing-literal, literal-placed}
 use Rattle.sublist_area.proofs.literal_or_new.Statement.{statement}
 use Rattle.sublist_area.proofs.literal_or_new.Tie as tie
 

@@ -4,8 +4,8 @@ use native.Mathlib.Omega.{arith}
 use mathlib.Core.Path.{_≡_, refl, sym, _∙_, ap}
 use lib.ListN.{getD}
 use borrow.Author.Needs.{needs}
-use Rattle.sublist_area.specs.Words.{told, byHash, seek}
-use Rattle.sublist_area.proofs.Turns.{at-none, at-spent, at-out, at-hit, at-next}
+use Rattle.sublist_area_rules.specs.Words.{told, byHash, seek}
+use Rattle.sublist_area_rules.proofs.Turns.{at-none, at-spent, at-out, at-hit, at-next}
 use Rattle.sublist_area.proofs.seek_sibling.Statement.{statement}
 use Rattle.sublist_area.proofs.seek_sibling.Tie as tie
 

@@ -2,7 +2,7 @@
 use native.Mathlib.Omega.{arith}
 use mathlib.Core.Path.{refl, sym, _∙_}
 use borrow.Author.Needs.{needs}
-use Rattle.sublist_area.proofs.Ways.{star-short, star-beyond, star-none, star-out, star-there}
+use Rattle.sublist_area_rules.proofs.Ways.{star-short, star-beyond, star-none, star-out, star-there}
 use Rattle.sublist_area.proofs.star_child.Statement.{statement}
 use Rattle.sublist_area.proofs.star_child.Tie as tie
 

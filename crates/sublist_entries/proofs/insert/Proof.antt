@@ -45,7 +45,7 @@ use denote.Exit.{yes}
 use Rattle.sublist_entries.specs.declared.Entry.{Entry}
 use Rattle.sublist_entries.specs.declared.ListState.{ListState}
 use Rattle.sublist_entries.specs.declared.Placing.{Placing}
-use Rattle.sublist_entries.specs.Placing.{noEntry, Decides}
+use Rattle.sublist_entries.specs.Placing.{noEntry}
 use Rattle.sublist_entries.proofs.Sizes.{entryBytes, place-fits}
 use Rattle.sublist_entries.proofs.Deciding.{Told, Leaves, entry-written, entry-unwritten}
 use Rattle.sublist_entries.proofs.Entry as T

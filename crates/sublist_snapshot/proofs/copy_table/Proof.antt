@@ -1,13 +1,13 @@
 -- `sublist_snapshot::copy_table` meets its contract. Assumes nothing.
 use Prim.Native.Nat.{_+_, _*_}
 use native.Mathlib.Omega.{arith}
-use mathlib.Core.Path.{_≡_, refl, sym, _∙_, ap}
+use mathlib.Core.Path.{_≡_, sym, _∙_, ap}
 use mathlib.Core.Bool.{true}
 use lib.ListN.{length}
 use lib.Seq.{paste}
 use borrow.Author.Needs.{needs}
 use borrow.Author.Tests.{lt-ltb, le-ltb, not-true, not-false}
-use Rattle.sublist_walk.specs.Matching.{countsFit}
+use Rattle.sublist_walk_rules.specs.Matching.{countsFit}
 use Rattle.sublist_snapshot.specs.declared.Copied.the-variants.{Done}
 use Rattle.sublist_snapshot.specs.Copying.{leftCopied}
 use Rattle.sublist_snapshot.proofs.Pasting.{Fit, counts-fit, paste-two}

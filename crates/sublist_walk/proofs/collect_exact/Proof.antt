@@ -5,7 +5,7 @@ use mathlib.Core.Path.{_≡_, refl, _∙_}
 use mathlib.Core.List.{[]}
 use lib.ListN.{length, take}
 use borrow.Author.Needs.{needs}
-use Rattle.sublist_walk.specs.Walk.{level, exact}
+use Rattle.sublist_walk_rules.specs.Walk.{level, exact}
 use Rattle.sublist_walk.specs.Told.{Added}
 use Rattle.sublist_walk.proofs.Visits.{listed-none, exact-on, exact-outside}
 use Rattle.sublist_walk.proofs.Levels.{lists-upto, lists-damaged}

@@ -6,8 +6,8 @@ use mathlib.Core.Path.{refl, _≡_}
 use lib.ListN.{length-set, length}
 use lib.Seq.{sets}
 use borrow.Author.Needs.{needs}
-use Rattle.sublist_walk.specs.Walk.{part}
-use Rattle.sublist_walk.proofs.Parts.{copied-all, copied-full, copied-next}
+use Rattle.sublist_walk_rules.specs.Walk.{part}
+use Rattle.sublist_walk_rules.proofs.Parts.{copied-all, copied-full, copied-next}
 use Rattle.sublist_walk.proofs.copy_part.Statement.{statement}
 use Rattle.sublist_walk.proofs.copy_part.Tie as tie
 

@@ -5,8 +5,8 @@ use mathlib.Core.Path.{sym, _∙_, _≡_}
 use mathlib.Core.Logic.{⊎-elim}
 use lib.ListN.{length, take}
 use borrow.Author.Needs.{needs}
-use Rattle.sublist_walk.specs.Walk.{among}
-use Rattle.sublist_walk.proofs.Parts.{among-here, among-other}
+use Rattle.sublist_walk_rules.specs.Walk.{among}
+use Rattle.sublist_walk_rules.proofs.Parts.{among-here, among-other}
 use Rattle.sublist_walk.proofs.stands.Statement.{statement}
 use Rattle.sublist_walk.proofs.stands.Tie as tie
 

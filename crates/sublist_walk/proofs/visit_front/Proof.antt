@@ -6,7 +6,7 @@ use mathlib.Core.List.{[]}
 use lib.ListN.{length, take, drop}
 use borrow.Author.Needs.{needs}
 use borrow.Rule.Slice.PartMut.{same-len-mid}
-use Rattle.sublist_walk.specs.Walk.{part, level, visits}
+use Rattle.sublist_walk_rules.specs.Walk.{part, level, visits}
 use Rattle.sublist_walk.specs.Told.{Added}
 use Rattle.sublist_walk.proofs.Visits.{listed-none}
 use Rattle.sublist_walk.proofs.Levels.{part-length, reaches-on, reaches-failed}

@@ -8,8 +8,8 @@ use lib.Seq.{take-take}
 use lib.ListN.{length, drop, length-set}
 use borrow.Author.Needs.{needs}
 use Rattle.subject.specs.Reading.{tokensFrom}
-use Rattle.subject.specs.Fnv.{fnv}
-use Rattle.sublist_walk.specs.Walk.{part}
+use Rattle.subject_rules.specs.Fnv.{fnv}
+use Rattle.sublist_walk_rules.specs.Walk.{part}
 use Rattle.sublist_walk.specs.Told.{walkOf, Turn}
 use Rattle.sublist_walk.proofs.Walks.{Under, token-bounds, hashes-next, hashes-end, at-root, stops, ends-by, goes-wrong, goes-on}
 use Rattle.sublist_walk.proofs.Lending.{turn-next, turn-same, half-taken}

@@ -1,6 +1,6 @@
 -- `router_c::router_cache_clear` meets its contract: the state that `ResolveCache::clear` leaves.
 use mathlib.Core.Path.{ap, _∙_}
-use Rattle.resolve_cache.specs.Cache.{clear}
+use Rattle.resolve_cache_rules.specs.Cache.{clear}
 use borrow.Author.Needs.{needs}
 use Rattle.router_c.proofs.cabinet.router_cache_clear.Statement.{statement}
 use Rattle.router_c.proofs.cabinet.router_cache_clear.Tie as tie

@@ -1,9 +1,9 @@
 -- `router_c::router_resolve` meets its contract: what `ResolveCache::resolve` answers and leaves.
 use mathlib.Core.Path.{_∙_}
 use Rattle.sublist_snapshot.specs.declared.Snapshot.{Snapshot}
-use Rattle.resolve_cache.specs.declared.ResolveCache.{ResolveCache}
-use Rattle.resolve_cache.specs.Answers.{lent}
-use Rattle.resolve_cache.specs.Cache.{resolve}
+use Rattle.resolve_cache_rules.specs.declared.ResolveCache.{ResolveCache}
+use Rattle.resolve_cache_rules.specs.Answers.{lent}
+use Rattle.resolve_cache_rules.specs.Cache.{resolve}
 use Rattle.router_c.proofs.Told.{told-resolved, same-states}
 use borrow.Author.Needs.{needs}
 use Rattle.router_c.proofs.cabinet.router_resolve.Statement.{statement}

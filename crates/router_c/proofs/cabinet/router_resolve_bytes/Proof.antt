@@ -1,7 +1,7 @@
 -- `router_c::router_resolve_bytes` meets its contract: what `router_bytes::resolve_bytes` answers and leaves.
 use Rattle.sublist_snapshot.specs.declared.Snapshot.{Snapshot}
-use Rattle.resolve_cache.specs.declared.ResolveCache.{ResolveCache}
-use Rattle.resolve_cache.specs.Answers.{lent}
+use Rattle.resolve_cache_rules.specs.declared.ResolveCache.{ResolveCache}
+use Rattle.resolve_cache_rules.specs.Answers.{lent}
 use Rattle.router_bytes.specs.Bytes.{resolveBytes}
 use Rattle.router_c.proofs.Told.{same-resolved, same-states}
 use borrow.Author.Needs.{needs}

@@ -1,8 +1,8 @@
 -- `router_c::router_resolve_single_home_cached` meets its contract: what `binding::resolve_single_home_cached` answers and leaves.
 use mathlib.Core.Path.{_∙_}
 use Rattle.sublist_snapshot.specs.declared.Snapshot.{Snapshot}
-use Rattle.resolve_cache.specs.declared.ResolveCache.{ResolveCache}
-use Rattle.resolve_cache.specs.Answers.{lent}
+use Rattle.resolve_cache_rules.specs.declared.ResolveCache.{ResolveCache}
+use Rattle.resolve_cache_rules.specs.Answers.{lent}
 use Rattle.binding.specs.Verdict.{resolveSingleHomeCached}
 use Rattle.router_c.proofs.Told.{told-cached, same-states}
 use borrow.Author.Needs.{needs}

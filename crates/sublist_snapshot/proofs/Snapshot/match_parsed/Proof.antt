@@ -5,7 +5,8 @@ use lib.Seq.{length-take-le}
 use borrow.Author.Needs.{needs}
 use Rattle.sublist_walk.specs.declared.TableMatch.{TableMatch}
 use Rattle.sublist_walk.specs.declared.TableMatch.the-variants.{Listed, Invalid, Damaged, OutShort}
-use Rattle.sublist_walk.specs.Matching.{matchAnswer, outcome}
+use Rattle.sublist_walk.specs.Answers.{matchAnswer}
+use Rattle.sublist_walk_rules.specs.Matching.{outcome}
 use Rattle.sublist_snapshot.specs.Snapshot.{withGeneration, matchParsedIn}
 use Rattle.sublist_snapshot.proofs.Fronts.{refusal-stays, through}
 use Rattle.sublist_snapshot.proofs.Snapshot.match_parsed.Statement.{statement}

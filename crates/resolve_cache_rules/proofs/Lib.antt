@@ -1,0 +1,6 @@
+pub mod Faithful
+pub mod Limits
+pub mod Outputs
+pub mod Put
+pub mod Rows
+pub mod Slots

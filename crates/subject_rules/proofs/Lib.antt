@@ -1,0 +1,11 @@
+pub mod Booleans
+pub mod Chars
+pub mod Decoding
+pub mod Depths
+pub mod Lines
+pub mod LowByte
+pub mod OriginalRows
+pub mod Pieces
+pub mod SameGrammar
+pub mod SameMatching
+pub mod Utf8Rows

@@ -1,0 +1,13 @@
+pub mod AcceptedEntries
+pub mod Answers
+pub mod Builds
+pub mod Composed
+pub mod Entering
+pub mod Filling
+pub mod Laying
+pub mod Limits
+pub mod Over
+pub mod Ranges
+pub mod Settling
+pub mod Standing
+pub mod Stores
