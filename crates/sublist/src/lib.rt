@@ -554,10 +554,10 @@ fn put_target(
 // Fourth pass: each entry's target is put behind those that its end has.
 fn put_targets(
     words: &[usize],
-    ends: &[usize],
     count: usize,
     node_words: &mut [u32],
     target_words: &mut [u32],
+    ends: &[usize],
 )
     requires { ⌜
         (entryNumbers * count ≤ length (now words))
@@ -581,10 +581,10 @@ fn put_targets(
 fn finish(
     words: &[usize],
     count: usize,
-    ends: &[usize],
     node_words: &mut [u32],
-    total: usize,
     target_words: &mut [u32],
+    ends: &[usize],
+    total: usize,
     generation: u64,
 ) -> Built
     requires { ⌜
@@ -609,7 +609,7 @@ fn finish(
         });
     }
     lay(node_words, total);
-    put_targets(words, ends, count, node_words, target_words);
+    put_targets(words, count, node_words, target_words, ends);
     Built::Table {
         nodes: total,
         worst_case,
@@ -621,10 +621,10 @@ fn finish(
 fn build_words(
     words: &[usize],
     count: usize,
-    ends: &mut [usize],
     store: &[u8],
     node_words: &mut [u32],
     target_words: &mut [u32],
+    ends: &mut [usize],
     generation: u64,
 ) -> Built
     requires { ⌜
@@ -649,10 +649,10 @@ fn build_words(
             Grown::Nodes(total) => finish(
                 words,
                 count,
-                ends,
                 node_words,
-                total,
                 target_words,
+                ends,
+                total,
                 generation,
             ),
         },
@@ -685,8 +685,8 @@ fn least(entries: usize) -> usize
 
 // The same, with room of its own for where the patterns end.
 fn build_numbers(
-    count: usize,
     words: &mut [usize],
+    count: usize,
     store: &[u8],
     node_words: &mut [u32],
     target_words: &mut [u32],
@@ -702,10 +702,10 @@ fn build_numbers(
     build_words(
         words,
         count,
-        &mut ends,
         store,
         node_words,
         target_words,
+        &mut ends,
         generation,
     )
 }
@@ -727,8 +727,8 @@ pub fn build(
     let n = least(entries.len());
     unpack(entries, n, &mut words);
     build_numbers(
-        entries.len(),
         &mut words,
+        entries.len(),
         store,
         node_words,
         target_words,
@@ -753,10 +753,10 @@ pub fn build_from_numbers(
     build_words(
         words,
         words.len() / ENTRY_NUMBERS,
-        &mut ends,
         store,
         node_words,
         target_words,
+        &mut ends,
         generation,
     )
 }

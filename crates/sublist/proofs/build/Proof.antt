@@ -189,19 +189,19 @@ module _ {M : Type 1} (𝓤 : URA M) (H : Heap 𝓤) (A : Atoms 𝓤) (W : Given
   goes-unpack l₆ ν δ = qed W ((‵ (flft κ q) ⊛ (‵ (flft (ν ∷ []) fullShare) ⊛ ‵ ftrue)) ∷ ‵ (Given-unpack l₆ ν δ) ∷ []) ∵ says ! (n-few, subst (λ (m : ℕ). 3 * n ≤ m) (sym (zeros-length mostNumbers)) n-room) $ frame ! $ done !
 
   abbrev WArg : Type 0
-  WArg = ℕ × (RefT (List ℕ) × (RefT (List ℕ) × (RefT (List ℕ) × (RefT (List ℕ) × (ℕ × Unit {0})))))
+  WArg = RefT (List ℕ) × (ℕ × (RefT (List ℕ) × (RefT (List ℕ) × (RefT (List ℕ) × (ℕ × Unit {0})))))
 
   abbrev wa : ℕ → GName → List ℕ → WArg
-  wa l₆ δ zs = (length ys, (xw l₆ δ zs, (xs, (xn, (xt, (gen, tt))))))
+  wa l₆ δ zs = (xw l₆ δ zs, (length ys, (xs, (xn, (xt, (gen, tt))))))
 
   abbrev wvals : ℕ → List Val × (List Val × (List Val × (List Val × (List Val × (List Val × Unit {0})))))
-  wvals l₆ = (vint w64 (length ys) ∷ [], (vw l₆ ∷ [], (vs ∷ [], (vn ∷ [], (vt ∷ [], (vint w64 gen ∷ [], tt))))))
+  wvals l₆ = (vw l₆ ∷ [], (vint w64 (length ys) ∷ [], (vs ∷ [], (vn ∷ [], (vt ∷ [], (vint w64 gen ∷ [], tt))))))
 
   abbrev to-words : ℕ → ℕ → GName → List ℕ → Words 𝓤 H A m″ run .Ghost
   to-words l₆ ν δ zs = (((ν ∷ [], (κ₁, (κ₂, (κ₃, tt)))), (fullShare, (q₁, (q₂, (q₃, tt)))), tt, wa l₆ δ zs, wvals l₆), tt)
 
   abbrev Given-words : ℕ → ℕ → GName → List ℕ → Fml
-  Given-words l₆ ν δ zs = owns (usize ∷ MutSlice (named 0) (ν ∷ []) usize ∷ ShrSlice (named 1) κ₁ u8 ∷ MutSlice (named 2) κ₂ u32 ∷ MutSlice (named 3) κ₃ u32 ∷ u64 ∷ []) (wa l₆ δ zs) (wvals l₆)
+  Given-words l₆ ν δ zs = owns (MutSlice (named 0) (ν ∷ []) usize ∷ usize ∷ ShrSlice (named 1) κ₁ u8 ∷ MutSlice (named 2) κ₂ u32 ∷ MutSlice (named 3) κ₃ u32 ∷ u64 ∷ []) (wa l₆ δ zs) (wvals l₆)
 
   goes-words : (l₆ ν : ℕ) (δ : GName) (zs : List ℕ) → length zs ≡ mostNumbers
       → ent 𝓤 (sep 𝓤 (sep 𝓤 (A .lft (ν ∷ []) fullShare) (sep 𝓤 (A .lft κ₁ q₁) (sep 𝓤 (A .lft κ₂ q₂) (sep 𝓤 (A .lft κ₃ q₃) (sem 𝓤 H A ftrue))))) (sem 𝓤 H A (Given-words l₆ ν δ zs))) (Words 𝓤 H A m″ run .pre (to-words l₆ ν δ zs))
@@ -271,9 +271,9 @@ module _ {M : Type 1} (𝓤 : URA M) (H : Heap 𝓤) (A : Atoms 𝓤) (W : Given
         -- [the cells; true; entries' token; true; true; true; the other tokens (6); what entries owns; what the others own (8); the locals (9 to 43)]
         keep ! (0 ∷ 2 ∷ 6 ∷ 7 ∷ 8 ∷ 9 ∷ 10 ∷ 11 ∷ 12 ∷ 13 ∷ 14 ∷ 15 ∷ 16 ∷ 17 ∷ 18 ∷ 19 ∷ 20 ∷ 21 ∷ 22 ∷ 23 ∷ 24 ∷ 25 ∷ 26 ∷ 27 ∷ 28 ∷ 29 ∷ 30 ∷ 31 ∷ 32 ∷ 33 ∷ 34 ∷ 35 ∷ 36 ∷ 37 ∷ 38 ∷ 39 ∷ 40 ∷ 41 ∷ 42 ∷ 43 ∷ []) $
         -- [the cells; entries' token; the other tokens; what entries owns; what the others own; the locals (5 to 39)]
-        assigns ! (of-opd ! (load ! (from ! (fld ! refl (stop !))) (look-in ! 36 (sub ! 1 refl (whole !))))) (from ! (stop !)) (store ! 23 refl (tt, record { fits = gn .0 })) $
         assigns ! (addr ! (from ! (stop !))) (from ! (stop !)) (init ! 15 refl (tt, tt)) $
         assigns ! (agg ! (and-then ! (load ! (from ! (stop !)) (look ! 15 refl)) (and-then ! (big-lit ! (record { fits = lit< tt })) (no-more !)))) (from ! (stop !)) (init ! 13 refl (tt, (tt, (record { fits = lit< tt }, tt)))) $
+        assigns ! (of-opd ! (load ! (from ! (fld ! refl (stop !))) (look-in ! 36 (sub ! 1 refl (whole !))))) (from ! (stop !)) (store ! 23 refl (tt, record { fits = gn .0 })) $
         assigns ! (addr ! (from ! (fld ! refl (hop ! (look-in ! 32 (sub ! 0 refl (whole !))) (stop !))))) (from ! (stop !)) (init ! 11 refl (tt, tt)) $
         assigns ! (agg ! (and-then ! (load ! (from ! (stop !)) (look ! 11 refl)) (and-then ! (load ! (from ! (fld ! refl (stop !))) (look-in ! 32 (sub ! 1 refl (whole !)))) (no-more !)))) (from ! (stop !)) (init ! 9 refl (tt, (tt, (record { fits = g₂ .0 }, tt)))) $
         assigns ! (addr ! (from ! (fld ! refl (hop ! (look-in ! 30 (sub ! 0 refl (whole !))) (stop !))))) (from ! (stop !)) (init ! 7 refl (tt, tt)) $
@@ -286,21 +286,21 @@ module _ {M : Type 1} (𝓤 : URA M) (H : Heap 𝓤) (A : Atoms 𝓤) (W : Given
         (lends-slice 𝓤 H A W usize (named 0) (ν′ ∷ []) (zs .1 .1 .0) l₆ 0 (subst (Room usize) (sym (l ∙ zeros-length mostNumbers)) room-w)) $ await ! tt $ pick ! (λ δ′. split ! $
         rewrite ! 0 (λ (k : ℕ). ‵ (MutSlice (named 0) (ν′ ∷ []) usize .own (xw l₆ δ′ (zs .1 .1 .0)) (sliceVal (l₆, 0) k ∷ []))) (l ∙ zeros-length mostNumbers) refl $
         -- [what the slice owns; the lender's part; ν′'s token; what store, nodes and targets own; what store owns; entries' token; the other tokens; what entries owns; the locals (8 to 42)]
-        move ! (0 ∷ 3 ∷ []) $ fjoin ! $ owned ! usize (Is usize) (uint-makes 𝓤 H A W w64) (length ys) _ (refl, gn .0) $ fjoin ! $ move ! (2 ∷ 5 ∷ []) $ join ! $
+        move ! (3 ∷ []) $ owned ! usize (Is usize) (uint-makes 𝓤 H A W w64) (length ys) _ (refl, gn .0) $ fjoin ! $ move ! (1 ∷ []) $ fjoin ! $ move ! (2 ∷ 5 ∷ []) $ join ! $
         use2 W (raw (Words 𝓤 H A m″ run .pre (to-words l₆ ν′ δ′ (zs .1 .1 .0)))) (goes-words l₆ ν′ δ′ (zs .1 .1 .0) (l ∙ zeros-length mostNumbers)) $
         -- [what `build_numbers` asks; the lender's part; what store owns; entries' token; what entries owns; the locals (5 to 39)]
-        calls-at ! fm (Words 𝓤 H A m″ run) known-words (to-words l₆ ν′ δ′ (zs .1 .1 .0)) (and-then ! (load ! (from ! (stop !)) (look ! 23 refl)) (and-then ! (load ! (from ! (stop !)) (look ! 13 refl)) (and-then ! (load ! (from ! (stop !)) (look ! 34 refl)) (and-then ! (load ! (from ! (stop !)) (look ! 9 refl)) (and-then ! (load ! (from ! (stop !)) (look ! 5 refl)) (and-then ! (load ! (from ! (stop !)) (look ! 28 refl)) (no-more !))))))) (λ w₂.
+        calls-at ! fm (Words 𝓤 H A m″ run) known-words (to-words l₆ ν′ δ′ (zs .1 .1 .0)) (and-then ! (load ! (from ! (stop !)) (look ! 13 refl)) (and-then ! (load ! (from ! (stop !)) (look ! 23 refl)) (and-then ! (load ! (from ! (stop !)) (look ! 34 refl)) (and-then ! (load ! (from ! (stop !)) (look ! 9 refl)) (and-then ! (load ! (from ! (stop !)) (look ! 5 refl)) (and-then ! (load ! (from ! (stop !)) (look ! 28 refl)) (no-more !))))))) (λ w₂.
         use1 W (later (some (λ (r : Built). ((‵ (flft (ν′ ∷ []) fullShare) ⊛ Three) ⊛ ‵ (B.the-row .own r (w₂ ∷ []))) ⊛ raw (ensured 𝓤 H A words.ended (words.clauses 𝓤 H A m″ run) (ν′ ∷ [], (κ₁, (κ₂, (κ₃, tt)))) (wa l₆ δ′ (zs .1 .1 .0)) tt r)))) (id⊢ 𝓤 _) $ await ! tt $ pick ! (λ r.
-        split ! $ move ! (1 ∷ []) $ use1 W (some (λ (us : Unit {0} × (List ℕ × (Unit {0} × (List ℕ × (List ℕ × (Unit {0} × Unit {0})))))). ‵ (lasts words.ended (ν′ ∷ [], (κ₁, (κ₂, (κ₃, tt)))) (wa l₆ δ′ (zs .1 .1 .0)) us) ⊛ raw (fact 𝓤 (Said (zs .1 .1 .0) r (us .1 .1 .1 .0) (us .1 .1 .1 .1 .0))))) (id⊢ 𝓤 _) $ pick ! (λ us.
+        split ! $ move ! (1 ∷ []) $ use1 W (some (λ (us : List ℕ × (Unit {0} × (Unit {0} × (List ℕ × (List ℕ × (Unit {0} × Unit {0})))))). ‵ (lasts words.ended (ν′ ∷ [], (κ₁, (κ₂, (κ₃, tt)))) (wa l₆ δ′ (zs .1 .1 .0)) us) ⊛ raw (fact 𝓤 (Said (zs .1 .1 .0) r (us .1 .1 .1 .0) (us .1 .1 .1 .1 .0))))) (id⊢ 𝓤 _) $ pick ! (λ us.
         split ! $ move ! (1 ∷ []) $ heard ! (Said (zs .1 .1 .0) r (us .1 .1 .1 .0) (us .1 .1 .1 .1 .0)) (λ e′.
-        fsplit ! $ move ! (1 ∷ []) $ fsplit ! $ fsplit ! $ move ! (1 ∷ []) $ feqL ! (λ lw. move ! (1 ∷ []) $ fsplit ! $ move ! (1 ∷ []) $ fsplit ! $ fsplit ! $ move ! (1 ∷ []) $ feqL ! (λ ln. move ! (1 ∷ []) $ fsplit ! $ fsplit ! $ move ! (1 ∷ []) $ feqL ! (λ lt.
-        -- [targets' last list; true; nodes'; true; the array's; true; the tokens and the result (6); the lender's part; what store owns; entries' token; what entries owns; the locals (11 to 45)]
+        fsplit ! $ fsplit ! $ move ! (1 ∷ []) $ feqL ! (λ lw. move ! (1 ∷ []) $ fsplit ! $ move ! (1 ∷ []) $ fsplit ! $ move ! (1 ∷ []) $ fsplit ! $ fsplit ! $ move ! (1 ∷ []) $ feqL ! (λ ln. move ! (1 ∷ []) $ fsplit ! $ fsplit ! $ move ! (1 ∷ []) $ feqL ! (λ lt.
+        -- [targets' last list; true; nodes'; true; true; the array's; the tokens and the result (6); the lender's part; what store owns; entries' token; what entries owns; the locals (11 to 45)]
         move ! (6 ∷ []) $ split ! $ move ! (1 ∷ []) $ peeks ! B.the-row (Is B.the-row) (shows 𝓤 H A B.the-row) r (w₂ ∷ []) (λ is.
         land ! (from ! (stop !)) (init ! 45 refl (EL.lawful B.the-type B′.the-laws 𝓤 H A W tt .typed r _ is .0)) $
         -- the lifetime is ended, and the array is taken back, as room
-        move ! (1 ∷ []) $ split ! $ lft-end ! tt $ move ! (0 ∷ 9 ∷ 7 ∷ []) $
-        use3 W (later (‵ (Arr (mem usize) (length (zs .1 .1 .0)) .lies (us .1 .0) l₆ 0))) (slice-back 𝓤 H A W usize (ν′ ∷ []) δ′ (us .1 .0) (length (zs .1 .1 .0)) l₆ 0) $ await ! tt $ fsplit ! $ drop ! $
-        use1 W (‵ (froom (tyArray (tyInt w64) mostNumbers) l₆ 0)) (cells-room 𝓤 H A W mostNumbers l₆ 0 (us .1 .0) (lw ∙ l ∙ zeros-length mostNumbers)) $
+        move ! (1 ∷ []) $ split ! $ lft-end ! tt $ move ! (0 ∷ 9 ∷ 8 ∷ []) $
+        use3 W (later (‵ (Arr (mem usize) (length (zs .1 .1 .0)) .lies (us .0) l₆ 0))) (slice-back 𝓤 H A W usize (ν′ ∷ []) δ′ (us .0) (length (zs .1 .1 .0)) l₆ 0) $ await ! tt $ fsplit ! $ drop ! $
+        use1 W (‵ (froom (tyArray (tyInt w64) mostNumbers) l₆ 0)) (cells-room 𝓤 H A W mostNumbers l₆ 0 (us .0) (lw ∙ l ∙ zeros-length mostNumbers)) $
         -- [room for _6; the other tokens; the result; targets' last list; true; nodes' (5); true; true; what store owns (8); entries' token; what entries owns; the locals (11 to 45)]
         returns ! (look ! 44 refl) $ forget ! 11 refl $ forget ! 13 refl $ forget ! 15 refl $ forget ! 17 refl $ forget ! 19 refl $ forget ! 21 refl $ forget ! 23 refl $ forget ! 25 refl $ forget ! 27 refl $ forget ! 29 refl $ forget ! 31 refl $ forget ! 34 refl $ forget ! 36 refl $ forget ! 38 refl $ forget ! 40 refl $ forget ! 42 refl $ forget ! 44 refl $
         move ! (44 ∷ 45 ∷ []) $ free1 ! $ move ! (42 ∷ 43 ∷ []) $ free1 ! $ move ! (40 ∷ 41 ∷ []) $ free1 ! $ move ! (38 ∷ 39 ∷ []) $ free1 ! $ move ! (36 ∷ 37 ∷ []) $ free1 ! $ move ! (34 ∷ 35 ∷ []) $ free1 ! $ move ! (0 ∷ 33 ∷ []) $ free1 ! $ move ! (30 ∷ 31 ∷ []) $ free1 ! $ move ! (28 ∷ 29 ∷ []) $ free1 ! $ move ! (26 ∷ 27 ∷ []) $ free1 ! $ move ! (24 ∷ 25 ∷ []) $ free1 ! $ move ! (22 ∷ 23 ∷ []) $ free1 ! $ move ! (20 ∷ 21 ∷ []) $ free1 ! $ move ! (18 ∷ 19 ∷ []) $ free1 ! $ move ! (16 ∷ 17 ∷ []) $ free1 ! $ move ! (14 ∷ 15 ∷ []) $ free1 ! $ move ! (12 ∷ 13 ∷ []) $ free1 ! $ move ! (10 ∷ 11 ∷ []) $ free1 ! $ free0 ! $

@@ -13,13 +13,13 @@ use Rattle.sublist.proofs.put_targets.Statement.{statement}
 use Rattle.sublist.proofs.put_targets.Tie as tie
 
 abbrev Inv-loop : tie.InvT-loop
-Inv-loop words ends count node-words₀ target-words₀ i₀ node-words target-words i =
+Inv-loop words count node-words₀ target-words₀ ends i₀ node-words target-words i =
     (filled (filling node-words target-words) (endsOf (count - i) (drop i ends)) (targetsOf (unflat (count - i) (drop (3 * i) words)))
     ≡ filled (filling node-words₀ target-words₀) (endsOf count ends) (targetsOf (unflat count words)))
     × (length node-words ≡ length node-words₀) × (length target-words ≡ length target-words₀) × (i ≤ count)
 
 abbrev μ-loop : tie.MeasureT-loop
-μ-loop words ends count node-words₀ target-words₀ i₀ node-words target-words i = count - i
+μ-loop words count node-words₀ target-words₀ ends i₀ node-words target-words i = count - i
 
 loop-holds : tie.Need-loop-holds Inv-loop μ-loop
 loop-holds c = (simp sub-zero, refl, refl, search needs)
