@@ -15,7 +15,10 @@ pub struct Part {
     turn: fn(&mut Tally, &mut Random),
 }
 
-static PARTS: [Part; 10] = [
+/// How many there are.
+pub const COUNT: usize = 10;
+
+static PARTS: [Part; COUNT] = [
     Part {
         name: "texts",
         about: "random and damaged texts",
@@ -153,18 +156,17 @@ impl Part {
     }
 }
 
-/// Every part, with its fixed number of turns.
-pub fn each(tally: &mut Tally, random: &mut Random) {
-    for part in &PARTS {
-        let mut done = Done::default();
-        part.run(tally, random, &mut done, |turns| turns < part.turns);
-        done.report(part.about, "");
-    }
+/// A part, by its place among them, with its fixed number of turns.
+pub fn fixed(part: usize, tally: &mut Tally, random: &mut Random) {
+    let part = &PARTS[part];
+    let mut done = Done::default();
+    part.run(tally, random, &mut done, |turns| turns < part.turns);
+    done.report(part.about, "");
 }
 
 /// Every part a while, again and again until the time is over.
 pub fn until(tally: &mut Tally, random: &mut Random, end: Instant) {
-    let mut done = [Done::default(); PARTS.len()];
+    let mut done = [Done::default(); COUNT];
     while Instant::now() < end {
         for (part, done) in PARTS.iter().zip(&mut done) {
             let pause = end.min(Instant::now() + Duration::from_millis(part.share));

@@ -135,6 +135,16 @@ impl Seen {
         *self.ways.entry(way).or_default() += 1;
     }
 
+    /// What others saw, too.
+    pub fn add(&mut self, other: Seen) {
+        for (answer, count) in other.answers {
+            *self.answers.entry(answer).or_default() += count;
+        }
+        for (way, count) in other.ways {
+            *self.ways.entry(way).or_default() += count;
+        }
+    }
+
     fn answered(&self, call: &'static str, number: u64) -> u64 {
         self.answers.get(&(call, number)).copied().unwrap_or(0)
     }

@@ -185,6 +185,26 @@ impl Tally {
         count
     }
 
+    /// What was counted apart is added.
+    pub fn add(&mut self, other: Tally) {
+        self.total += other.total;
+        self.reported += other.reported;
+        for (count, more) in self.families.iter_mut().zip(other.families) {
+            *count += more;
+        }
+        for (number, count) in other.answers {
+            *self.answers.entry(number).or_default() += count;
+        }
+        for (count, more) in self.verdicts.iter_mut().zip(other.verdicts) {
+            *count += more;
+        }
+        self.builds += other.builds;
+        self.matches += other.matches;
+        self.largest_table = self.largest_table.max(other.largest_table);
+        self.largest_peak = self.largest_peak.max(other.largest_peak);
+        self.seen.add(other.seen);
+    }
+
     /// Says what was met in all. An answer that never came up means that the inputs miss a rule, and fails.
     pub fn close(&self, took: Duration) -> ExitCode {
         let [texts, tables, calls] = self.families;
