@@ -1,6 +1,6 @@
 -- The round trips, over the width: numbers to bytes and back, and the bytes of a number and back.
 use mathlib.Core.Path.{_≡_, refl, sym, ap, _∙_}
-use mathlib.Core.List.{List, [], _∷_, _++_}
+use mathlib.Core.List.{List, [], _∷_}
 use Prim.Native.Nat.{ℕ, zero, suc, _+_, _*_, _/_, _%_, _^_, _<_}
 use native.Mathlib.Nat.{le-of-suc-le-suc, not-suc-le-zero, zero-mul, suc-mul, add-comm, pow-suc, div-lt-iff-lt-mul, mul-div-cancel}
 use native.Mathlib.Omega.{arith}

@@ -4,7 +4,7 @@ use mathlib.Core.List.{List, [], _∷_, _++_}
 use lib.Dec.{ltb}
 use lib.ListN.{length, take, drop}
 use Rattle.subject_rules.specs.Choice.{pick}
-use Rattle.subject_rules.specs.Answers.{Answer, answer}
+use Rattle.subject_rules.specs.Answers.{answer}
 use Rattle.sublist_entries.specs.Inserting.{afterAnswer}
 use Rattle.sublist_walk_rules.specs.Matching.{Outcome, outcome, over, matchTable}
 use Rattle.sublist_snapshot.specs.declared.Snapshot.{Snapshot}

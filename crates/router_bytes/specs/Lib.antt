@@ -1,2 +1,3 @@
 -- What a reader must believe of the calls on areas of bytes.
 pub mod Bytes
+pub mod Answers

@@ -1,7 +1,7 @@
 // The match and the resolve on areas of bytes: their numbers are copied, and an accepted call's are written back.
+use resolve_cache::ResolveAnswer;
+use resolve_cache::Resolved;
 use resolve_cache_rules::ResolveCache;
-use router_words::CAnswer;
-use router_words::CResolved;
 use sublist_snapshot::Snapshot;
 use sublist_walk::TableMatch;
 ghost use mathlib.Core.Path.{_≡_};
@@ -10,16 +10,36 @@ ghost use Prim.Native.Nat.{_+_, _*_, _/_, _%_, _≤_};
 ghost use lib.Dec.{ltb};
 ghost use lib.ListN.{length, take, drop};
 ghost use Rattle.sublist_tree.specs.Lists.{put};
+ghost use Rattle.sublist_entries.specs.Inserting.{afterAnswer};
 ghost use Rattle.sublist_walk_rules.specs.Matching.{outcome, over, matchTable};
 ghost use Rattle.sublist_walk.specs.Answers.{matchAnswer};
 ghost use Rattle.resolve_cache_rules.specs.Cache.{resolve};
+ghost use Rattle.resolve_cache.specs.Answers.{resolveAnswer, left};
 ghost use Rattle.resolve_cache_rules.specs.Answers.{lent};
-ghost use Rattle.router_words.specs.Words.{Matches, Resolves};
 ghost use Rattle.router_bytes.specs.Bytes.{copyBytes, spelled, spelling, bytesOf, wordsIn, longsIn};
 ghost use Rattle.router_bytes.specs.Bytes.{onBytes, matchBytes, inNumbers, inBytes, resolveBytes};
+ghost use Rattle.router_bytes.specs.Answers.{bytesMatchAnswer, leftBytes, accepted};
 
 // The copies of a call's areas hold so many bytes.
 pub const COPY_BYTES: usize = 65536;
+
+// What a match on the copies tells, or 99: the areas are more than the copies hold.
+pub enum BytesMatch {
+    Told(TableMatch),
+    CopyFull,
+}
+
+// The same of a resolve.
+pub enum BytesAnswer {
+    Told(ResolveAnswer),
+    CopyFull,
+}
+
+// A resolve's answer, and the cache afterwards.
+pub struct BytesResolved {
+    pub cache: ResolveCache,
+    pub answer: BytesAnswer,
+}
 
 // A word from its four bytes, lowest first.
 fn word_of(a: u8, b: u8, c: u8, d: u8) -> u32
@@ -170,19 +190,29 @@ fn copies_full(a: usize, b: usize, c: usize, d: usize) -> bool
     COPY_BYTES - a - b - c < d
 }
 
-// The words of an accepted match go over the first bytes of the output; a refusal leaves them.
-fn put_back(m: TableMatch, words: &[u32], bytes: &mut [u8]) -> CAnswer
-    requires { ⌜ length (now words) * 4 ≤ length (now bytes) ⌝ }
-    ensures { λ r. ⌜
-        Matches r (now (bytes .exit))
-        (onBytes (outcome (matchAnswer m) (now (words .entry))) (now (bytes .entry))) ⌝ }
+// Whether a match is accepted.
+fn is_listed(m: TableMatch) -> bool
+    ensures { λ r. ⌜ r ≡ accepted (matchAnswer m) ⌝ }
 {
-    let told = router_words::to_c_table_match(m);
-    if told.number != 0 {
-        return told;
+    match m {
+        TableMatch::Listed { count: _, peak: _ } => true,
+        TableMatch::Invalid(_) => false,
+        TableMatch::Damaged => false,
+        TableMatch::OutShort(_) => false,
     }
-    store_words(words, bytes);
-    told
+}
+
+// The words of an accepted match go over the first bytes of the output; a refusal leaves them.
+fn put_back(m: TableMatch, words: &[u32], bytes: &mut [u8])
+    requires { ⌜ length (now words) * 4 ≤ length (now bytes) ⌝ }
+    ensures { λ _. ⌜
+        now (bytes .exit)
+        ≡ afterAnswer (matchAnswer m)
+        (over (bytesOf 4 (now (words .entry))) (now (bytes .entry))) (now (bytes .entry)) ⌝ }
+{
+    if is_listed(m) {
+        store_words(words, bytes);
+    }
 }
 
 // The match on words that are copied: those of the output stand in `out`, and are those of the output's bytes.
@@ -194,15 +224,16 @@ fn match_copied(
     subject: &[u8],
     out: &mut [u32],
     out_bytes: &mut [u8],
-) -> CAnswer
+) -> TableMatch
     requires { ⌜ length (now out) * 4 ≤ length (now «out_bytes») ⌝ }
     ensures { λ r. ⌜
-        Matches r (now («out_bytes» .exit))
-        (onBytes (matchTable nodes targets (now («node_words» .entry)) (now («target_words» .entry))
-        (now (subject .entry)) (now (out .entry))) (now («out_bytes» .entry))) ⌝ }
+        outcome (matchAnswer r) (now («out_bytes» .exit))
+        ≡ onBytes (matchTable nodes targets (now («node_words» .entry)) (now («target_words» .entry))
+        (now (subject .entry)) (now (out .entry))) (now («out_bytes» .entry)) ⌝ }
 {
     let m = sublist_walk::match_table(nodes, targets, node_words, target_words, subject, out);
-    put_back(m, out, out_bytes)
+    put_back(m, out, out_bytes);
+    m
 }
 
 // The match with the output's words copied.
@@ -216,14 +247,14 @@ fn match_into_copy(
     subject: &[u8],
     out: &mut [u32],
     out_bytes: &mut [u8],
-) -> CAnswer
+) -> TableMatch
     requires { ⌜
         (n + m ≤ length (now copies))
         × (length (now «out_bytes») ≤ length (now out) * 4) ⌝ }
     ensures { λ r. ⌜
-        Matches r (now («out_bytes» .exit))
-        (onBytes (matchTable nodes targets (take n (now (copies .entry))) (take m (drop n (now (copies .entry))))
-        (now (subject .entry)) (wordsIn (now («out_bytes» .entry)))) (now («out_bytes» .entry))) ⌝ }
+        outcome (matchAnswer r) (now («out_bytes» .exit))
+        ≡ onBytes (matchTable nodes targets (take n (now (copies .entry))) (take m (drop n (now (copies .entry))))
+        (now (subject .entry)) (wordsIn (now («out_bytes» .entry)))) (now («out_bytes» .entry)) ⌝ }
 {
     let k = load_words(out_bytes, out);
     let end = n + m;
@@ -248,14 +279,15 @@ fn match_copies(
     copies: &mut [u32],
     out: &mut [u32],
     out_bytes: &mut [u8],
-) -> CAnswer
+) -> TableMatch
     requires { ⌜
         (length (now «node_bytes») + length (now «target_bytes») ≤ length (now copies) * 4)
         × (length (now «out_bytes») ≤ length (now out) * 4) ⌝ }
     ensures { λ r. ⌜
-        Matches r (now («out_bytes» .exit))
-        (onBytes (matchTable nodes targets (wordsIn (now («node_bytes» .entry))) (wordsIn (now («target_bytes» .entry)))
-        (now (subject .entry)) (wordsIn (now («out_bytes» .entry)))) (now («out_bytes» .entry))) ⌝ }
+        outcome (matchAnswer r) (now («out_bytes» .exit))
+        ≡ onBytes (matchTable nodes targets
+        (wordsIn (now («node_bytes» .entry))) (wordsIn (now («target_bytes» .entry)))
+        (now (subject .entry)) (wordsIn (now («out_bytes» .entry)))) (now («out_bytes» .entry)) ⌝ }
 {
     let n = load_words(node_bytes, copies);
     let m = load_words(target_bytes, &mut copies[n..]);
@@ -270,18 +302,18 @@ pub fn match_bytes(
     target_bytes: &[u8],
     subject: &[u8],
     out_bytes: &mut [u8],
-) -> CAnswer
+) -> BytesMatch
     ensures { λ r. ⌜
-        Matches r (now («out_bytes» .exit))
-        (matchBytes nodes targets (now («node_bytes» .entry)) (now («target_bytes» .entry))
-        (now (subject .entry)) (now («out_bytes» .entry))) ⌝ }
+        outcome (bytesMatchAnswer r) (now («out_bytes» .exit))
+        ≡ matchBytes nodes targets (now («node_bytes» .entry)) (now («target_bytes» .entry))
+        (now (subject .entry)) (now («out_bytes» .entry)) ⌝ }
 {
     if copy_full(node_bytes.len(), target_bytes.len(), out_bytes.len()) {
-        return router_words::plain(99);
+        return BytesMatch::CopyFull;
     }
-    let mut copies = [0u32; 16384];
-    let mut out = [0u32; 16384];
-    match_copies(
+    let mut copies = [0u32; COPY_BYTES / 4];
+    let mut out = [0u32; COPY_BYTES / 4];
+    BytesMatch::Told(match_copies(
         nodes,
         targets,
         node_bytes,
@@ -290,7 +322,55 @@ pub fn match_bytes(
         &mut copies,
         &mut out,
         out_bytes,
-    )
+    ))
+}
+
+// Whether a resolve is accepted.
+fn is_resolved(r: Resolved) -> bool
+    ensures { λ b. ⌜ b ≡ accepted (resolveAnswer (r .answer)) ⌝ }
+{
+    let answer = r.answer;
+    match answer {
+        ResolveAnswer::Kept { from: _, count: _ } => true,
+        ResolveAnswer::Walked { count: _ } => true,
+        ResolveAnswer::Invalid(_) => false,
+        ResolveAnswer::CacheShort => false,
+        ResolveAnswer::BadSlot => false,
+        ResolveAnswer::Damaged => false,
+        ResolveAnswer::OutShort(_) => false,
+    }
+}
+
+// The numbers of an accepted resolve go over the first bytes of heads, kept targets and output; a refusal leaves them.
+fn put_all_back(
+    r: Resolved,
+    longs: &[u64],
+    kept_words: &[u32],
+    out_words: &[u32],
+    heads: &mut [u8],
+    kept: &mut [u8],
+    out: &mut [u8],
+)
+    requires { ⌜
+        (length (now longs) * 8 ≤ length (now heads))
+        × (length (now «kept_words») * 4 ≤ length (now kept))
+        × (length (now «out_words») * 4 ≤ length (now out)) ⌝ }
+    ensures { λ _. ⌜
+        (now (heads .exit)
+        ≡ afterAnswer (resolveAnswer (r .answer))
+        (over (bytesOf 8 (now (longs .entry))) (now (heads .entry))) (now (heads .entry)))
+        × (now (kept .exit)
+        ≡ afterAnswer (resolveAnswer (r .answer))
+        (over (bytesOf 4 (now («kept_words» .entry))) (now (kept .entry))) (now (kept .entry)))
+        × (now (out .exit)
+        ≡ afterAnswer (resolveAnswer (r .answer))
+        (over (bytesOf 4 (now («out_words» .entry))) (now (out .entry))) (now (out .entry))) ⌝ }
+{
+    if is_resolved(r) {
+        store_longs(longs, heads);
+        store_words(kept_words, kept);
+        store_words(out_words, out);
+    }
 }
 
 // The resolve on numbers copied from the bytes of heads, kept targets and output: an accepted one writes them back.
@@ -306,16 +386,16 @@ fn resolve_copied(
     heads: &mut [u8],
     kept: &mut [u8],
     out: &mut [u8],
-) -> CResolved
+) -> Resolved
     requires { ⌜
         (length (now longs) * 8 ≤ length (now heads))
         × (length (now «kept_words») * 4 ≤ length (now kept))
         × (length (now «out_words») * 4 ≤ length (now out)) ⌝ }
     ensures { λ r. ⌜
-        Resolves r (lent (now (heads .exit)) (now (keys .exit)) (now (kept .exit))) (now (out .exit))
-        (inBytes (resolve cache (lent (now (longs .entry)) (now (keys .entry)) (now («kept_words» .entry)))
+        left r (lent (now (heads .exit)) (now (keys .exit)) (now (kept .exit))) (now (out .exit))
+        ≡ inBytes (resolve cache (lent (now (longs .entry)) (now (keys .entry)) (now («kept_words» .entry)))
         snapshot (now («area_words» .entry)) (now (subject .entry)) (now («out_words» .entry)))
-        (lent (now (heads .entry)) (now (keys .entry)) (now (kept .entry))) (now (out .entry))) ⌝ }
+        (lent (now (heads .entry)) (now (keys .entry)) (now (kept .entry))) (now (out .entry)) ⌝ }
 {
     let resolved = resolve_cache::resolve(
         cache,
@@ -327,14 +407,8 @@ fn resolve_copied(
         subject,
         out_words,
     );
-    let told = router_words::to_c_resolved(resolved);
-    if told.number != 0 {
-        return told;
-    }
-    store_longs(longs, heads);
-    store_words(kept_words, kept);
-    store_words(out_words, out);
-    told
+    put_all_back(resolved, longs, kept_words, out_words, heads, kept, out);
+    resolved
 }
 
 // The resolve with the numbers of heads, kept targets, area and output copied from their bytes.
@@ -351,17 +425,17 @@ fn resolve_copies(
     kept_words: &mut [u32],
     area_words: &mut [u32],
     out_words: &mut [u32],
-) -> CResolved
+) -> Resolved
     requires { ⌜
         (length (now heads) ≤ length (now longs) * 8)
         × (length (now kept) ≤ length (now «kept_words») * 4)
         × (length (now area) ≤ length (now «area_words») * 4)
         × (length (now out) ≤ length (now «out_words») * 4) ⌝ }
     ensures { λ r. ⌜
-        Resolves r (lent (now (heads .exit)) (now (keys .exit)) (now (kept .exit))) (now (out .exit))
-        (inBytes (resolve cache (inNumbers (lent (now (heads .entry)) (now (keys .entry)) (now (kept .entry))))
+        left r (lent (now (heads .exit)) (now (keys .exit)) (now (kept .exit))) (now (out .exit))
+        ≡ inBytes (resolve cache (inNumbers (lent (now (heads .entry)) (now (keys .entry)) (now (kept .entry))))
         snapshot (wordsIn (now (area .entry))) (now (subject .entry)) (wordsIn (now (out .entry))))
-        (lent (now (heads .entry)) (now (keys .entry)) (now (kept .entry))) (now (out .entry))) ⌝ }
+        (lent (now (heads .entry)) (now (keys .entry)) (now (kept .entry))) (now (out .entry)) ⌝ }
 {
     let n = load_longs(heads, longs);
     let m = load_words(kept, kept_words);
@@ -382,6 +456,20 @@ fn resolve_copies(
     )
 }
 
+// What a resolve on the copies answers, as that on the bytes tells it.
+fn told(r: Resolved) -> BytesResolved
+    ensures { λ w. ⌜
+        (w .cache ≡ r .cache)
+        × (w .answer ≡ BytesAnswer.Told (r .answer)) ⌝ }
+{
+    let cache = r.cache;
+    let answer = r.answer;
+    BytesResolved {
+        cache,
+        answer: BytesAnswer::Told(answer),
+    }
+}
+
 // The resolve on areas of bytes, eight bytes a number of `heads` and four a word of the others; whole ones count.
 // 99 if heads, kept, area and out are together more than the copies hold.
 pub fn resolve_bytes(
@@ -393,20 +481,23 @@ pub fn resolve_bytes(
     area: &[u8],
     subject: &[u8],
     out: &mut [u8],
-) -> CResolved
+) -> BytesResolved
     ensures { λ r. ⌜
-        Resolves r (lent (now (heads .exit)) (now (keys .exit)) (now (kept .exit))) (now (out .exit))
-        (resolveBytes cache (lent (now (heads .entry)) (now (keys .entry)) (now (kept .entry)))
-        snapshot (now (area .entry)) (now (subject .entry)) (now (out .entry))) ⌝ }
+        leftBytes r (lent (now (heads .exit)) (now (keys .exit)) (now (kept .exit))) (now (out .exit))
+        ≡ resolveBytes cache (lent (now (heads .entry)) (now (keys .entry)) (now (kept .entry)))
+        snapshot (now (area .entry)) (now (subject .entry)) (now (out .entry)) ⌝ }
 {
     if copies_full(heads.len(), kept.len(), area.len(), out.len()) {
-        return router_words::with_cache(router_words::plain(99), cache);
+        return BytesResolved {
+            cache,
+            answer: BytesAnswer::CopyFull,
+        };
     }
-    let mut longs = [0u64; 8192];
-    let mut kept_words = [0u32; 16384];
-    let mut area_words = [0u32; 16384];
-    let mut out_words = [0u32; 16384];
-    resolve_copies(
+    let mut longs = [0u64; COPY_BYTES / 8];
+    let mut kept_words = [0u32; COPY_BYTES / 4];
+    let mut area_words = [0u32; COPY_BYTES / 4];
+    let mut out_words = [0u32; COPY_BYTES / 4];
+    told(resolve_copies(
         cache,
         heads,
         keys,
@@ -419,5 +510,5 @@ pub fn resolve_bytes(
         &mut kept_words,
         &mut area_words,
         &mut out_words,
-    )
+    ))
 }

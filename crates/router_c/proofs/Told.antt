@@ -15,10 +15,8 @@ use Rattle.sublist_snapshot.specs.declared.Stored.{Stored as StoreReturned}
 use Rattle.sublist_snapshot.specs.Snapshot.{Made, Stored}
 use Rattle.sublist_snapshot.specs.Answers.{madeAnswer, storeAnswer, made, leftStored}
 use Rattle.resolve_cache_rules.specs.declared.ResolveCache.{ResolveCache}
-use Rattle.resolve_cache.specs.declared.Resolved.{Resolved as Returned}
 use Rattle.resolve_cache_rules.specs.Area.{Area}
 use Rattle.resolve_cache_rules.specs.Cache.{Resolved}
-use Rattle.resolve_cache.specs.Answers.{resolveAnswer, left}
 use Rattle.binding.specs.declared.SingleHome.{SingleHome}
 use Rattle.binding.specs.declared.CachedResolution.{CachedResolution}
 use Rattle.binding.specs.Verdict.{Homed, CachedHomed}
@@ -43,8 +41,8 @@ told-made {r} {area} m p e = subst (λ (y : Made). Makes r area y) e (record { s
 pub told-stored : {r : CStored} {area : List ℕ} (s : StoreReturned) {x : Stored} → (r .number ≡ numberOf (storeAnswer (s .answer))) × (r .stamped ≡ valueOf (storeAnswer (s .answer)) 0) × (snapshotIn r ≡ s .snapshot) → leftStored s area ≡ x → Stores r area x
 told-stored {r} {area} s p e = subst (λ (y : Stored). Stores r area y) e (record { number = p .0; stamped = p .1; snapshot-is = p .2; area-is = refl })
 
-pub told-resolved : {w : CResolved} {a : Area} {out : List ℕ} (r : Returned) {x : Resolved} → Says (answerIn w) (resolveAnswer (r .answer)) × (cacheIn w ≡ r .cache) → left r a out ≡ x → Resolves w a out x
-told-resolved {w} {a} {out} r p e = subst (λ (y : Resolved). Resolves w a out y) e (record { says = p .0; cache-is = p .1; area-is = refl; out-is = refl })
+pub told-resolved : {w : CResolved} {a : Area} {out : List ℕ} {says : Answer} {cache : ResolveCache} {x : Resolved} → Says (answerIn w) says × (cacheIn w ≡ cache) → record { says = says; cache = cache; area = a; out = out } ≡ x → Resolves w a out x
+told-resolved {w} {a} {out} p e = subst (λ (y : Resolved). Resolves w a out y) e (record { says = p .0; cache-is = p .1; area-is = refl; out-is = refl })
 
 pub told-home : {r : CVerdict} {out : List ℕ} (h : SingleHome) {x : Homed} → SaysVerdict r (judgedAnswer (homeAnswer h)) → homed h out ≡ x → Judges r out x
 told-home {r} {out} h p e = subst (λ (y : Homed). Judges r out y) e (record { says = p; out-is = refl })
@@ -58,9 +56,6 @@ same-answer {r} e p = subst (λ (x : Answer). Says r x) e p
 
 pub same-made : {r : CMadeCache} {a b : Answer} → a ≡ b → SaysMadeCache r a → SaysMadeCache r b
 same-made {r} e p = subst (λ (x : Answer). SaysMadeCache r x) e p
-
-pub same-resolved : {w : CResolved} {a : Area} {out : List ℕ} {x y : Resolved} → x ≡ y → Resolves w a out x → Resolves w a out y
-same-resolved {w} {a} {out} e p = subst (λ (z : Resolved). Resolves w a out z) e p
 
 -- the same of equal states
 pub same-states : {A : Type 0} (f : ResolveCache → Snapshot → A) {c c′ : ResolveCache} {s s′ : Snapshot} → c ≡ c′ → s ≡ s′ → f c s ≡ f c′ s′

@@ -1,5 +1,9 @@
 // What a cabinet keeps, lent and given back as numbers: the snapshot of its table, and the cache of what it resolved.
+use resolve_cache::Resolved;
+use resolve_cache::resolve;
 use resolve_cache_rules::ResolveCache;
+use router_bytes::BytesAnswer;
+use router_bytes::BytesResolved;
 use router_words::CAnswer;
 use router_words::CCache;
 use router_words::CMadeCache;
@@ -18,8 +22,9 @@ ghost use Rattle.resolve_cache_rules.specs.Cache.{withCapacity, clear, resolve}
 ghost use Rattle.resolve_cache_rules.specs.Answers.{lent};
 ghost use Rattle.binding.specs.Verdict.{singleHome, resolveSingleHome, resolveSingleHomeCached};
 ghost use Rattle.router_words.specs.Words.{Says, Matches, tableOf, snapshotOf, cacheOf, SaysMadeCache, verdictAnswer};
-ghost use Rattle.router_words.specs.Words.{Makes, Stores, Resolves, Judges, JudgesCached};
+ghost use Rattle.router_words.specs.Words.{answerIn, cacheIn, Makes, Stores, Resolves, Judges, JudgesCached};
 ghost use Rattle.router_bytes.specs.Bytes.{resolveBytes};
+ghost use Rattle.router_bytes.specs.Answers.{bytesAnswer};
 
 // A snapshot of a first table, whose words are copied to the area: its state, or why not.
 #[no_mangle]
@@ -137,8 +142,21 @@ pub extern "C" fn router_resolve(
 {
     let own = router_words::from_c_cache(cache);
     let standing = router_words::from_c_snapshot(snapshot);
-    let resolved = resolve_cache::resolve(own, heads, keys, kept, standing, area, subject, out);
-    router_words::to_c_resolved(resolved)
+    router_words::to_c_resolved(resolve(own, heads, keys, kept, standing, area, subject, out))
+}
+
+// A resolve on bytes: what the resolve on the copies tells, or 99; then the cache.
+fn to_c_bytes_resolved(r: BytesResolved) -> CResolved
+    ensures { λ w. ⌜
+        Says (answerIn w) (bytesAnswer (r .answer))
+        × (cacheIn w ≡ r .cache) ⌝ }
+{
+    let cache = r.cache;
+    let told = r.answer;
+    match told {
+        BytesAnswer::Told(answer) => router_words::to_c_resolved(Resolved { cache, answer }),
+        BytesAnswer::CopyFull => router_words::with_cache(router_words::plain(99), cache),
+    }
 }
 
 // The resolve on areas of bytes, lowest byte of a number first; whole numbers count.
@@ -162,7 +180,8 @@ pub extern "C" fn router_resolve_bytes(
 {
     let own = router_words::from_c_cache(cache);
     let standing = router_words::from_c_snapshot(snapshot);
-    router_bytes::resolve_bytes(own, heads, keys, kept, standing, area, subject, out)
+    let told = router_bytes::resolve_bytes(own, heads, keys, kept, standing, area, subject, out);
+    to_c_bytes_resolved(told)
 }
 
 // The verdict on a list.

@@ -1,8 +1,10 @@
 // Matches on a lent table, its words lent as words or as bytes.
+use router_bytes::BytesMatch;
 use router_words::CAnswer;
 ghost use Rattle.sublist_walk_rules.specs.Matching.{matchTable};
-ghost use Rattle.router_words.specs.Words.{Matches};
+ghost use Rattle.router_words.specs.Words.{Says, Matches};
 ghost use Rattle.router_bytes.specs.Bytes.{matchBytes};
+ghost use Rattle.router_bytes.specs.Answers.{bytesMatchAnswer};
 
 // The targets that a subject matches in a table, written over the first places of the output.
 // The answer has their number and the peak, or why not.
@@ -30,6 +32,16 @@ pub extern "C" fn router_match(
     ))
 }
 
+// A match on bytes: what the match on the copies tells, or 99.
+fn to_c_bytes_match(m: BytesMatch) -> CAnswer
+    ensures { λ r. ⌜ Says r (bytesMatchAnswer m) ⌝ }
+{
+    match m {
+        BytesMatch::Told(told) => router_words::to_c_table_match(told),
+        BytesMatch::CopyFull => router_words::plain(99),
+    }
+}
+
 // The match on areas of bytes, lowest byte of a word first; whole words count.
 // 99 if the three areas are together more than 65,536 bytes.
 #[no_mangle]
@@ -46,5 +58,12 @@ pub extern "C" fn router_match_bytes(
         (matchBytes nodes targets (now («node_bytes» .entry)) (now («target_bytes» .entry))
         (now (subject .entry)) (now («out_bytes» .entry))) ⌝ }
 {
-    router_bytes::match_bytes(nodes, targets, node_bytes, target_bytes, subject, out_bytes)
+    to_c_bytes_match(router_bytes::match_bytes(
+        nodes,
+        targets,
+        node_bytes,
+        target_bytes,
+        subject,
+        out_bytes,
+    ))
 }

@@ -23,7 +23,7 @@ use sublist_snapshot::StoreAnswer;
 use sublist_snapshot::Stored;
 use sublist_walk::TableMatch;
 ghost use mathlib.Core.Path.{_≡_};
-ghost use mathlib.Core.List.{[], _∷_, _++_};
+ghost use mathlib.Core.List.{[], _∷_};
 ghost use Rattle.subject_rules.specs.Answers.{answer};
 ghost use Rattle.subject.specs.Answers.{refusal, parsed, matched, placed};
 ghost use Rattle.sublist_entries.specs.Answers.{insertAnswer};
@@ -147,6 +147,30 @@ pub fn with_value(number: u64, value: u64) -> CAnswer
     }
 }
 
+// An answer with two values.
+fn with_two(number: u64, first: u64, second: u64) -> CAnswer
+    ensures { λ r. ⌜ Says r (answer number (first ∷ second ∷ [])) ⌝ }
+{
+    CAnswer {
+        number,
+        first,
+        second,
+        third: 0,
+    }
+}
+
+// An answer with three values.
+fn with_three(number: u64, first: u64, second: u64, third: u64) -> CAnswer
+    ensures { λ r. ⌜ Says r (answer number (first ∷ second ∷ third ∷ [])) ⌝ }
+{
+    CAnswer {
+        number,
+        first,
+        second,
+        third,
+    }
+}
+
 // A refusal of a text.
 pub fn to_c_refusal(e: SubjectError) -> CAnswer
     ensures { λ r. ⌜ Says r (refusal e) ⌝ }
@@ -158,24 +182,9 @@ pub fn to_c_refusal(e: SubjectError) -> CAnswer
         SubjectError::TailWildcardNotLast(index) => with_value(4, index as u64),
         SubjectError::TooDeep(depth) => with_value(5, depth as u64),
         SubjectError::EmptyToken(index) => with_value(6, index as u64),
-        SubjectError::WildcardNotAllowed(ch, index) => CAnswer {
-            number: 7,
-            first: ch as u64,
-            second: index as u64,
-            third: 0,
-        },
-        SubjectError::ControlChar(ch, index) => CAnswer {
-            number: 8,
-            first: ch as u64,
-            second: index as u64,
-            third: 0,
-        },
-        SubjectError::IllegalChar(ch, index) => CAnswer {
-            number: 9,
-            first: ch as u64,
-            second: index as u64,
-            third: 0,
-        },
+        SubjectError::WildcardNotAllowed(ch, index) => with_two(7, ch as u64, index as u64),
+        SubjectError::ControlChar(ch, index) => with_two(8, ch as u64, index as u64),
+        SubjectError::IllegalChar(ch, index) => with_two(9, ch as u64, index as u64),
     }
 }
 
@@ -209,13 +218,8 @@ pub fn to_c_token(t: Token) -> CAnswer
             start,
             end,
             next: _,
-        } => CAnswer {
-            number: 0,
-            first: 1,
-            second: start as u64,
-            third: end as u64,
-        },
-        Token::End => plain(0),
+        } => with_three(0, 1, start as u64, end as u64),
+        Token::End => with_value(0, 0),
     }
 }
 
@@ -224,12 +228,7 @@ pub fn to_c_inserted(i: Inserted) -> CAnswer
     ensures { λ r. ⌜ Says r (insertAnswer i) ⌝ }
 {
     match i {
-        Inserted::Done(list) => CAnswer {
-            number: 0,
-            first: list.entries as u64,
-            second: list.used as u64,
-            third: 0,
-        },
+        Inserted::Done(list) => with_two(0, list.entries as u64, list.used as u64),
         Inserted::Invalid(e) => to_c_refusal(e),
         Inserted::EntriesFull => plain(10),
         Inserted::TextFull => plain(11),
@@ -259,12 +258,11 @@ fn to_c_build_refusal(e: SublistError) -> CAnswer
         SublistError::InvalidPattern(inner) => to_c_held(inner),
         SublistError::NodesFull(needed) => with_value(14, needed as u64),
         SublistError::TargetsFull => plain(15),
-        SublistError::ForkLimitExceeded { worst_case, limit } => CAnswer {
-            number: 16,
-            first: worst_case as u64,
-            second: limit as u64,
-            third: 0,
-        },
+        SublistError::ForkLimitExceeded { worst_case, limit } => with_two(
+            16,
+            worst_case as u64,
+            limit as u64,
+        ),
     }
 }
 
@@ -277,12 +275,7 @@ pub fn to_c_built(b: Built) -> CAnswer
             nodes,
             worst_case,
             generation,
-        } => CAnswer {
-            number: 0,
-            first: nodes as u64,
-            second: worst_case as u64,
-            third: generation,
-        },
+        } => with_three(0, nodes as u64, worst_case as u64, generation),
         Built::Refused(e) => to_c_build_refusal(e),
     }
 }
@@ -292,12 +285,7 @@ pub fn to_c_table_match(m: TableMatch) -> CAnswer
     ensures { λ r. ⌜ Says r (matchAnswer m) ⌝ }
 {
     match m {
-        TableMatch::Listed { count, peak } => CAnswer {
-            number: 0,
-            first: count as u64,
-            second: peak as u64,
-            third: 0,
-        },
+        TableMatch::Listed { count, peak } => with_two(0, count as u64, peak as u64),
         TableMatch::Invalid(e) => to_c_refusal(e),
         TableMatch::Damaged => plain(19),
         TableMatch::OutShort(needed) => with_value(21, needed as u64),
@@ -389,12 +377,7 @@ pub fn to_c_snapshot_match(m: SnapshotMatch) -> CAnswer
             count,
             peak,
             generation,
-        } => CAnswer {
-            number: 0,
-            first: count as u64,
-            second: peak as u64,
-            third: generation.0,
-        },
+        } => with_three(0, count as u64, peak as u64, generation.0),
         SnapshotMatch::Invalid(e) => to_c_refusal(e),
         SnapshotMatch::Damaged => plain(19),
         SnapshotMatch::OutShort(needed) => with_value(21, needed as u64),
@@ -460,18 +443,8 @@ fn to_c_resolve_answer(a: ResolveAnswer) -> CAnswer
     ensures { λ r. ⌜ Says r (resolveAnswer a) ⌝ }
 {
     match a {
-        ResolveAnswer::Kept { from, count } => CAnswer {
-            number: 0,
-            first: 0,
-            second: from as u64,
-            third: count as u64,
-        },
-        ResolveAnswer::Walked { count } => CAnswer {
-            number: 0,
-            first: 1,
-            second: 0,
-            third: count as u64,
-        },
+        ResolveAnswer::Kept { from, count } => with_three(0, 0, from as u64, count as u64),
+        ResolveAnswer::Walked { count } => with_three(0, 1, 0, count as u64),
         ResolveAnswer::Invalid(e) => to_c_refusal(e),
         ResolveAnswer::CacheShort => plain(17),
         ResolveAnswer::BadSlot => plain(18),
@@ -513,18 +486,8 @@ pub fn to_c_resolution(v: Resolution) -> CAnswer
 {
     match v {
         Resolution::NoStream => plain(0),
-        Resolution::Routed(target) => CAnswer {
-            number: 0,
-            first: 1,
-            second: target as u64,
-            third: 0,
-        },
-        Resolution::Ambiguous { matched } => CAnswer {
-            number: 0,
-            first: 2,
-            second: matched as u64,
-            third: 0,
-        },
+        Resolution::Routed(target) => with_two(0, 1, target as u64),
+        Resolution::Ambiguous { matched } => with_two(0, 2, matched as u64),
     }
 }
 

@@ -1,7 +1,7 @@
 -- What each way through a turn of the loops of `seek_sibling` and `clear_node` makes of `seek` and of the stores to come.
 use Prim.Native.Nat.{ℕ, zero, suc, _+_, _-_, _*_, _/_, _%_, _≤_, _<_}
 use native.Mathlib.Omega.{arith}
-use native.Mathlib.Numerals.{sub-one, add-one}
+use native.Mathlib.Numerals.{sub-one}
 use mathlib.Core.Path.{_≡_, refl, sym, _∙_, ap}
 use mathlib.Core.List.{List}
 use lib.Dec.{leb, eqb}

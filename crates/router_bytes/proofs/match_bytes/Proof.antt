@@ -1,21 +1,20 @@
 -- `router_bytes::match_bytes` meets its contract: 99, or the match on copies.
-use mathlib.Core.Path.{refl, sym, _∙_}
+use mathlib.Core.Path.{sym, _∙_}
 use Prim.Native.Nat.{_+_, _≤_}
 use lib.ListN.{length}
-use borrow.Author.Tests.{ltb-false}
+use borrow.Author.Tests.{ltb-true, ltb-false}
 use borrow.Author.Needs.{needs}
 use Rattle.router_bytes.specs.Bytes.{copyBytes}
-use Rattle.router_bytes.proofs.Copies.{too-many, few-enough}
+use Rattle.router_bytes.proofs.Limits.{match-taken, match-99}
 use Rattle.router_bytes.proofs.match_bytes.Statement.{statement}
 use Rattle.router_bytes.proofs.match_bytes.Tie as tie
 
 returns : tie.Need-returns
 returns c =
-    let i = c .before in
-    let s = i .before .before .before .before .before .before in
+    let s = c .before .before .before .before .before .before in
     let a = s .args in
-    too-many _ _ (a .nodes) (a .targets) (a .subject .now) (a .out-bytes .now) (a .node-bytes .now) (a .target-bytes .now)
-    (sym (i .before .copy-full .ensures) ∙ i .if1 .taken) (c .plain .ensures) refl
+    sym (match-99 (a .nodes) (a .targets) (a .node-bytes .now) (a .target-bytes .now) (a .subject .now) (a .out-bytes .now)
+    (ltb-true copyBytes _ (sym (c .before .copy-full .ensures) ∙ c .if1 .taken)))
 
 match-copies-requires : tie.Need-match-copies-requires
 match-copies-requires c κs =
@@ -31,11 +30,12 @@ returns-2 c =
     let i = m .before .before .before .before in
     let s = i .before .before .before .before .before .before in
     let a = s .args in
-    few-enough _ _ (a .nodes) (a .targets) (a .subject .now) (a .out-bytes .now) (a .node-bytes .now) (a .target-bytes .now)
-    (sym (i .before .copy-full .ensures) ∙ i .if1 .left) (m .match-copies .ensures)
+    m .match-copies .ensures
+    ∙ sym (match-taken (a .nodes) (a .targets) (a .node-bytes .now) (a .target-bytes .now) (a .subject .now) (a .out-bytes .now)
+    (ltb-false copyBytes _ (sym (i .before .copy-full .ensures) ∙ i .if1 .left)))
 
 pub match-bytes-spec : {M : Type 1} → statement M
 match-bytes-spec =
     tie.close
-    (tie.spec (λ c κs. search needs) (λ c κs. search needs) returns (λ c. search needs) (λ c. search needs)
+    (tie.spec (λ c κs. search needs) returns (λ c. search needs) (λ c. search needs)
     match-copies-requires (λ c. search needs) returns-2)

@@ -1,6 +1,9 @@
 -- `router_bytes::match_copied` meets its contract: what the match leaves in the words goes back to the bytes.
+use mathlib.Core.Path.{ap, _∙_}
 use borrow.Author.Needs.{needs}
-use Rattle.router_bytes.proofs.Copies.{same-outcome}
+use Rattle.sublist_walk_rules.specs.Matching.{Outcome, outcome}
+use Rattle.sublist_walk.specs.Answers.{matchAnswer}
+use Rattle.router_bytes.specs.Bytes.{onBytes}
 use Rattle.router_bytes.proofs.match_copied.Statement.{statement}
 use Rattle.router_bytes.proofs.match_copied.Tie as tie
 
@@ -9,7 +12,8 @@ returns c =
     let p = c .before .before in
     let m = p .before .before .before .before .before in
     let s = m .before .before .before .before .before .before .before in
-    same-outcome _ _ (s .args .out-bytes .now) _ _ (m .match-table .ensures) (p .put-back .ensures)
+    ap (outcome (matchAnswer (m .match-table .result))) (p .put-back .ensures)
+    ∙ ap (λ (o : Outcome). onBytes o (s .args .out-bytes .now)) (m .match-table .ensures)
 
 pub match-copied-spec : {M : Type 1} → statement M
 match-copied-spec =

@@ -12,7 +12,7 @@ returns c =
     let n = m .before .before .before .before in
     let s = n .before .before .before .before .before .before .before .before in
     let a = s .args in
-    same-match _ _ (a .nodes) (a .targets) (a .subject .now) (a .out-bytes .now) _ _ _ _ _ _
+    same-match _ (a .nodes) (a .targets) (a .subject .now) (a .out-bytes .now) _ _ _ _ _ _
     (first-part (a .node-bytes .now) (a .target-bytes .now) (a .copies .now) (n .load-words .last .1 .0) _ (m .load-words2 .last .1 .0) _ (n .load-words .result) (m .load-words2 .result) (n .load-words .ensures .0) (n .load-words .ensures .1) (m .load-words2 .ensures .0) (m .load-words2 .ensures .1))
     (second-part (a .node-bytes .now) (a .target-bytes .now) (a .copies .now) (n .load-words .last .1 .0) _ (m .load-words2 .last .1 .0) _ (n .load-words .result) (m .load-words2 .result) (n .load-words .ensures .0) (n .load-words .ensures .1) (m .load-words2 .ensures .0) (m .load-words2 .ensures .1))
     refl

@@ -31,7 +31,7 @@ returns c =
     let l = m .before .before .before .before .before .before .before in
     let s = l .before .before .before .before .before .before .before in
     let a = s .args in
-    same-match _ _ (a .nodes) (a .targets) (a .subject .now) (a .out-bytes .now) _ _ _ _ _ _ refl
+    same-match _ (a .nodes) (a .targets) (a .subject .now) (a .out-bytes .now) _ _ _ _ _ _ refl
     (part-is (a .copies .now) (a .n) (a .m))
     (front 4 (a .out-bytes .now) (a .out .now) (l .load-words .last .1 .0) (l .load-words .result) (l .load-words .ensures .0) (l .load-words .ensures .1))
     (m .match-copied .ensures)

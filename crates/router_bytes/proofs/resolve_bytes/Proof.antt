@@ -2,21 +2,21 @@
 use mathlib.Core.Path.{sym, _∙_}
 use Prim.Native.Nat.{_+_, _≤_}
 use lib.ListN.{length}
-use borrow.Author.Tests.{ltb-false}
+use borrow.Author.Tests.{ltb-true, ltb-false}
 use borrow.Author.Needs.{needs}
 use Rattle.resolve_cache_rules.specs.Answers.{lent}
 use Rattle.router_bytes.specs.Bytes.{copyBytes}
-use Rattle.router_bytes.proofs.Resolving.{too-many-bytes, few-bytes}
+use Rattle.router_bytes.proofs.Limits.{resolve-taken, resolve-99}
+use Rattle.router_bytes.proofs.Resolving.{told-bytes}
 use Rattle.router_bytes.proofs.resolve_bytes.Statement.{statement}
 use Rattle.router_bytes.proofs.resolve_bytes.Tie as tie
 
 returns : tie.Need-returns
 returns c =
-    let i = c .before .before in
-    let s = i .before .before .before .before .before .before .before .before in
+    let s = c .before .before .before .before .before .before .before .before in
     let a = s .args in
-    too-many-bytes _ (a .cache) (a .snapshot) (lent (a .heads .now) (a .keys .now) (a .kept .now)) (a .area .now) (a .subject .now) (a .out .now)
-    (sym (i .before .copies-full .ensures) ∙ i .if1 .taken) _ (c .before .plain .ensures) (c .with-cache .ensures)
+    sym (resolve-99 (a .cache) (lent (a .heads .now) (a .keys .now) (a .kept .now)) (a .snapshot) (a .area .now) (a .subject .now) (a .out .now)
+    (ltb-true copyBytes _ (sym (c .before .copies-full .ensures) ∙ c .if1 .taken)))
 
 resolve-copies-requires : tie.Need-resolve-copies-requires
 resolve-copies-requires c κs =
@@ -28,16 +28,18 @@ resolve-copies-requires c κs =
 
 returns-2 : tie.Need-returns-2
 returns-2 c =
-    let r = c .before .before .before .before .before .before .before .before .before .before .before .before in
+    let r = c .before .before .before .before .before .before .before .before .before .before .before .before .before in
     let i = r .before .before .before .before .before .before .before .before .before in
     let s = i .before .before .before .before .before .before .before .before in
     let a = s .args in
-    few-bytes _ (a .cache) (a .snapshot) (lent (a .heads .now) (a .keys .now) (a .kept .now)) (a .area .now) (a .subject .now) (a .out .now)
-    (sym (i .before .copies-full .ensures) ∙ i .if1 .left) _ _ (r .resolve-copies .ensures)
+    told-bytes (c .told .result) (r .resolve-copies .result) _ _ (c .told .ensures)
+    ∙ r .resolve-copies .ensures
+    ∙ sym (resolve-taken (a .cache) (lent (a .heads .now) (a .keys .now) (a .kept .now)) (a .snapshot) (a .area .now) (a .subject .now) (a .out .now)
+    (ltb-false copyBytes _ (sym (i .before .copies-full .ensures) ∙ i .if1 .left)))
 
 pub resolve-bytes-spec : {M : Type 1} → statement M
 resolve-bytes-spec =
     tie.close
-    (tie.spec (λ c κs. search needs) (λ c κs. search needs) (λ c κs. search needs) returns (λ c. search needs)
-    (λ c. search needs) (λ c. search needs) (λ c. search needs) resolve-copies-requires (λ c. search needs)
-    (λ c. search needs) (λ c. search needs) (λ c. search needs) returns-2)
+    (tie.spec (λ c κs. search needs) returns (λ c. search needs) (λ c. search needs) (λ c. search needs)
+    (λ c. search needs) resolve-copies-requires (λ c κs. search needs) (λ c. search needs) (λ c. search needs)
+    (λ c. search needs) (λ c. search needs) returns-2)

@@ -74,7 +74,7 @@ returns c =
     let h = k .before .before .before .before .before in
     let s = h .before .before .before .before .before .before .before .before .before .before .before .before .before in
     let a = s .args in
-    same-resolve _ _ _ (lent (a .heads .now) (a .keys .now) (a .kept .now)) (a .out .now) (a .cache) (a .snapshot) (a .keys .now) (a .subject .now) _ _ _ _ _ _ _ _
+    same-resolve _ (lent (a .heads .now) (a .keys .now) (a .kept .now)) (a .out .now) (a .cache) (a .snapshot) (a .keys .now) (a .subject .now) _ _ _ _ _ _ _ _
     (front 8 (a .heads .now) (a .longs .now) (h .load-longs .last .1 .0) (h .load-longs .result) (h .load-longs .ensures .0) (h .load-longs .ensures .1))
     (front 4 (a .kept .now) (a .kept-words .now) (k .load-words .last .1 .0) (k .load-words .result) (k .load-words .ensures .0) (k .load-words .ensures .1))
     (front 4 (a .area .now) (a .area-words .now) (e .load-words2 .last .1 .0) (e .load-words2 .result) (e .load-words2 .ensures .0) (e .load-words2 .ensures .1))

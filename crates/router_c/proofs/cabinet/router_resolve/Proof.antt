@@ -1,4 +1,4 @@
--- `router_c::router_resolve` meets its contract: what `ResolveCache::resolve` answers and leaves.
+-- `router_c::router_resolve` meets its contract: what `resolve_cache::resolve` answers and leaves.
 use mathlib.Core.Path.{_∙_}
 use Rattle.sublist_snapshot.specs.declared.Snapshot.{Snapshot}
 use Rattle.resolve_cache_rules.specs.declared.ResolveCache.{ResolveCache}
@@ -16,7 +16,7 @@ returns c =
     let a = s .before .before .before .before .before .before .before .before .args in
     let area = lent (a .heads .now) (a .keys .now) (a .kept .now) in
     let same = same-states (λ (x : ResolveCache) (y : Snapshot). resolve x area y (a .area .now) (a .subject .now) (a .out .now)) (s .before .from-c-cache .ensures) (s .from-c-snapshot .ensures) in
-    told-resolved (k .resolve .result) (c .to-c-resolved .ensures) (k .resolve .ensures ∙ same)
+    told-resolved (c .to-c-resolved .ensures) (k .resolve .ensures ∙ same)
 
 pub router-resolve-spec : {M : Type 1} → statement M
 router-resolve-spec =
