@@ -15,20 +15,20 @@ use Rattle.resolve_cache_rules.specs.Cache.{withCapacity, clear, resolve
 pub data Slot : Type 0 where
   slot : (key targets : List ℕ) (stamp : ℕ) → Slot
 
-abbrev pub headsOf : List Slot → List ℕ
-headsOf [] = []
-headsOf (slot key targets stamp ∷ ss) = length key ∷ length targets ∷ stamp ∷ headsOf ss
+abbrev pub slotHeads : List Slot → List ℕ
+slotHeads [] = []
+slotHeads (slot key targets stamp ∷ ss) = length key ∷ length targets ∷ stamp ∷ slotHeads ss
 
-abbrev pub keysOf : List Slot → List ℕ
-keysOf [] = []
-keysOf (slot key targets stamp ∷ ss) = key ++ (replicate (256 - length key) 7 ++ keysOf ss)
+abbrev pub slotKeys : List Slot → List ℕ
+slotKeys [] = []
+slotKeys (slot key targets stamp ∷ ss) = key ++ (replicate (256 - length key) 7 ++ slotKeys ss)
 
-abbrev pub keptOf : List Slot → List ℕ
-keptOf [] = []
-keptOf (slot key targets stamp ∷ ss) = targets ++ (replicate (16 - length targets) 7 ++ keptOf ss)
+abbrev pub slotTargets : List Slot → List ℕ
+slotTargets [] = []
+slotTargets (slot key targets stamp ∷ ss) = targets ++ (replicate (16 - length targets) 7 ++ slotTargets ss)
 
 abbrev pub slots : List Slot → Area
-slots ss = record { heads = headsOf ss; keys = keysOf ss; kept = keptOf ss }
+slots ss = record { heads = slotHeads ss; keys = slotKeys ss; kept = slotTargets ss }
 
 -- capacity, slots used, generation, tick, walks
 abbrev pub cache : ℕ → ℕ → ℕ → ℕ → ℕ → ResolveCache

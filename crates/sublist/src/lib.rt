@@ -32,6 +32,8 @@ use subject::same_bytes;
 use subject::token_at;
 use subject::token_hash;
 use sublist_area::NODE_WORDS;
+use sublist_area::larger;
+use sublist_area::wide;
 use sublist_area_rules::Placed;
 use sublist_entries::ENTRY_NUMBERS;
 use sublist_entries::Entry;
@@ -83,22 +85,10 @@ enum Grown {
     Full,
 }
 
-fn wide(x: u32) -> usize
-    ensures { λ r. ⌜ r ≡ x ⌝ }
-{
-    x as usize
-}
-
 fn sum(a: u32, b: u32) -> usize
     ensures { λ r. ⌜ r ≡ a + b ⌝ }
 {
     a as usize + b as usize
-}
-
-fn larger(a: u32, b: u32) -> u32
-    ensures { λ r. ⌜ r ≡ max a b ⌝ }
-{
-    if a < b { b } else { a }
 }
 
 // A word of a node.
@@ -465,8 +455,8 @@ fn tell(node_words: &mut [u32], i: usize)
         set_word(node_words, parent, 4, worst);
         return;
     }
-    let most = larger(node_word(node_words, parent, 6), worst);
-    set_word(node_words, parent, 6, most);
+    let most = larger(wide(node_word(node_words, parent, 6)), wide(worst));
+    set_word(node_words, parent, 6, most as u32);
 }
 
 // Second pass: the worst case of each node, told to its parent; the answer is the root's.

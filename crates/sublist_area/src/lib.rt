@@ -1,6 +1,6 @@
 // The nodes of a table in a lent area of words: looking up a child, making one.
 ghost use mathlib.Core.Path.{_≡_};
-ghost use Prim.Native.Nat.{ℕ, _+_, _*_, _/_, _<_, _≤_, _^_};
+ghost use Prim.Native.Nat.{ℕ, _+_, _*_, _/_, _<_, _≤_, _^_, max};
 ghost use lib.ListN.{length};
 ghost use Rattle.sublist_tree.specs.Tree.{star, lit};
 ghost use Rattle.sublist_area_rules.specs.Words.{nodeWords, hashIs, byHash, seek, literalChild, starChild};
@@ -17,10 +17,18 @@ const MAX_NODES: usize = 4294967295;
 // How many values a word has.
 const WORD: u64 = 4294967296;
 
-fn wide(x: u32) -> usize
+// A word as a number.
+pub fn wide(x: u32) -> usize
     ensures { λ r. ⌜ r ≡ x ⌝ }
 {
     x as usize
+}
+
+// The larger of two numbers.
+pub fn larger(a: usize, b: usize) -> usize
+    ensures { λ r. ⌜ r ≡ max a b ⌝ }
+{
+    if a < b { b } else { a }
 }
 
 // Whether node `at` has the hash.

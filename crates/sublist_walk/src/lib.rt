@@ -1,7 +1,7 @@
 // The walk of a subject over a table, and the match. A table is lent as counts and words, any counts and any words.
 ghost use mathlib.Core.Path.{_≡_};
 ghost use mathlib.Core.List.{[]};
-ghost use Prim.Native.Nat.{_+_, _-_, _/_, _≤_, _<_, _^_, max};
+ghost use Prim.Native.Nat.{_+_, _-_, _/_, _≤_, _<_, _^_};
 ghost use lib.ListN.{length, take, getD};
 ghost use lib.Seq.{sets};
 ghost use Rattle.subject_rules.specs.Answers.{answer, whenAccepted};
@@ -17,6 +17,8 @@ use subject::Parsed;
 use subject::SubjectError;
 use subject::Token;
 use sublist_area::NODE_WORDS;
+use sublist_area::larger;
+use sublist_area::wide;
 use sublist_area_rules::Child;
 use sublist_walk_rules::Failure;
 
@@ -74,18 +76,6 @@ enum Tried {
     OutShort(usize),
     Damaged,
     Wide,
-}
-
-fn wide(x: u32) -> usize
-    ensures { λ r. ⌜ r ≡ x ⌝ }
-{
-    x as usize
-}
-
-fn larger(a: usize, b: usize) -> usize
-    ensures { λ r. ⌜ r ≡ max a b ⌝ }
-{
-    if a < b { b } else { a }
 }
 
 // One of some words, 0 outside them.

@@ -48,8 +48,17 @@ returns-2 c =
 node-word-requires-3 : tie.Need-node-word-requires-3
 node-word-requires-3 c κs = search needs
 
+wide-requires-3 : tie.Need-wide-requires-3
+wide-requires-3 c κs = search needs
+
+wide-requires-4 : tie.Need-wide-requires-4
+wide-requires-4 c κs = search needs
+
 larger-requires : tie.Need-larger-requires
 larger-requires c κs = search needs
+
+cast-set-word : tie.Need-cast-set-word
+cast-set-word c = search needs
 
 set-word-requires-2 : tie.Need-set-word-requires-2
 set-word-requires-2 c κs = search needs
@@ -61,13 +70,15 @@ returns-3 : tie.Need-returns-3
 returns-3 c =
     let s = c .before .before in
     let m = s .before .before in
-    let g = m .before .before .before in
+    let k = m .before in
+    let n = k .before in
+    let g = n .before .before .before in
     let y = g .before in
     let w = y .before .before .before in
     let f = w .before .before in
     let p = f .before in
     s .set-word2 .ensures
-    ∙ tell-lit _ _ _ (p .wide .ensures ∙ p .before .node-word .ensures) (f .if1 .left) _ _ (w .node-worst .ensures) (y .wide2 .ensures ∙ y .before .node-word2 .ensures) (g .if2 .left) _ (m .larger .ensures ∙ rw (m .before .node-word3 .ensures))
+    ∙ tell-lit _ _ _ (p .wide .ensures ∙ p .before .node-word .ensures) (f .if1 .left) _ _ (w .node-worst .ensures) (y .wide2 .ensures ∙ y .before .node-word2 .ensures) (g .if2 .left) _ (m .larger .ensures ∙ rw (n .wide3 .ensures, k .wide4 .ensures, n .before .node-word3 .ensures))
 
 pub tell-spec : {M : Type 1} → statement M
 tell-spec =
@@ -84,7 +95,10 @@ tell-spec =
     same-length-2
     returns-2
     node-word-requires-3
+    wide-requires-3
+    wide-requires-4
     larger-requires
+    cast-set-word
     set-word-requires-2
     same-length-3
     returns-3)
