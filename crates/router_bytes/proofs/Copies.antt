@@ -13,9 +13,9 @@ use Rattle.subject.specs.Answers.{refusal}
 use Rattle.subject.proofs.Refusals.{refused-stands}
 use Rattle.sublist_entries.specs.Inserting.{afterAnswer}
 use Rattle.sublist_walk_rules.specs.Matching.{Outcome, matchTable}
-use Rattle.router_bytes.specs.Bytes.{wordsIn, onBytes}
+use Rattle.router_bytes_rules.specs.Bytes.{wordsIn, onBytes}
 use Rattle.router_bytes.specs.Answers.{accepted}
-use Rattle.router_bytes.proofs.Spelled.{front, front-length, length-numbers}
+use Rattle.router_bytes_rules.proofs.Spelled.{front, front-length, length-numbers}
 
 -- a refusal of a text is no 0
 pub text-refused : (e : SubjectError) → accepted (refusal e) ≡ false

@@ -5,7 +5,7 @@ use Prim.Native.Nat.{ℕ, _+_, _-_}
 use native.Mathlib.Omega.{arith}
 use lib.Dec.{ltb}
 use borrow.Author.Tests.{ltb-true, ltb-false, lt-ltb, le-ltb}
-use Rattle.router_bytes.specs.Bytes.{copyBytes}
+use Rattle.router_bytes_rules.specs.Bytes.{copyBytes}
 
 -- n bytes are taken, and what is left is less than d just where the sum is more
 pub left-over : (n left d : ℕ) → n + left ≡ copyBytes → ltb left d ≡ ltb copyBytes (n + d)

@@ -16,7 +16,7 @@ use Rattle.resolve_cache_rules.proofs.Outputs.{Leaves, resolve-leaves}
 use Rattle.router_bytes.specs.declared.BytesAnswer.the-variants.{Told}
 use Rattle.router_bytes.specs.declared.BytesResolved.{BytesResolved}
 use Rattle.router_bytes.specs.Answers.{leftBytes}
-use Rattle.router_bytes.specs.Bytes.{bytesOf, inBytes}
+use Rattle.router_bytes_rules.specs.Bytes.{bytesOf, inBytes}
 
 -- the keys are not copied: a refused resolve leaves them
 keys-after : (c : ResolveCache) (a : Area) (out : List ℕ) (r : Resolved) (says : Answer) → Leaves c a out r says → r .area .keys ≡ afterAnswer says (r .area .keys) (a .keys)

@@ -1,3 +1,2 @@
--- What a reader must believe of the calls on areas of bytes.
-pub mod Bytes
+-- 01's numbers and values of the answers of the calls on areas of bytes.
 pub mod Answers

@@ -16,8 +16,8 @@ ghost use Rattle.sublist_walk.specs.Answers.{matchAnswer};
 ghost use Rattle.resolve_cache_rules.specs.Cache.{resolve};
 ghost use Rattle.resolve_cache.specs.Answers.{resolveAnswer, left};
 ghost use Rattle.resolve_cache_rules.specs.Answers.{lent};
-ghost use Rattle.router_bytes.specs.Bytes.{copyBytes, spelled, spelling, bytesOf, wordsIn, longsIn};
-ghost use Rattle.router_bytes.specs.Bytes.{onBytes, matchBytes, inNumbers, inBytes, resolveBytes};
+ghost use Rattle.router_bytes_rules.specs.Bytes.{copyBytes, spelled, spelling, bytesOf, wordsIn, longsIn};
+ghost use Rattle.router_bytes_rules.specs.Bytes.{onBytes, matchBytes, inNumbers, inBytes, resolveBytes};
 ghost use Rattle.router_bytes.specs.Answers.{bytesMatchAnswer, leftBytes, accepted};
 
 // The copies of a call's areas hold so many bytes.

@@ -23,7 +23,7 @@ ghost use Rattle.resolve_cache_rules.specs.Answers.{lent};
 ghost use Rattle.binding.specs.Verdict.{singleHome, resolveSingleHome, resolveSingleHomeCached};
 ghost use Rattle.router_words.specs.Words.{Says, Matches, tableOf, snapshotOf, cacheOf, SaysMadeCache, verdictAnswer};
 ghost use Rattle.router_words.specs.Words.{answerIn, cacheIn, Makes, Stores, Resolves, Judges, JudgesCached};
-ghost use Rattle.router_bytes.specs.Bytes.{resolveBytes};
+ghost use Rattle.router_bytes_rules.specs.Bytes.{resolveBytes};
 ghost use Rattle.router_bytes.specs.Answers.{bytesAnswer};
 
 // A snapshot of a first table, whose words are copied to the area: its state, or why not.

@@ -3,7 +3,7 @@ use router_bytes::BytesMatch;
 use router_words::CAnswer;
 ghost use Rattle.sublist_walk_rules.specs.Matching.{matchTable};
 ghost use Rattle.router_words.specs.Words.{Says, Matches};
-ghost use Rattle.router_bytes.specs.Bytes.{matchBytes};
+ghost use Rattle.router_bytes_rules.specs.Bytes.{matchBytes};
 ghost use Rattle.router_bytes.specs.Answers.{bytesMatchAnswer};
 
 // The targets that a subject matches in a table, written over the first places of the output.

@@ -6,7 +6,7 @@ use native.Mathlib.Omega.{arith}
 use lib.Dec.{ltb}
 use borrow.Author.Tests.{ltb-true, ltb-false, lt-ltb}
 use borrow.Author.Needs.{needs}
-use Rattle.router_bytes.specs.Bytes.{copyBytes}
+use Rattle.router_bytes_rules.specs.Bytes.{copyBytes}
 use Rattle.router_bytes.proofs.Counting.{left-over}
 use Rattle.router_bytes.proofs.copies_full.Statement.{statement}
 use Rattle.router_bytes.proofs.copies_full.Tie as tie

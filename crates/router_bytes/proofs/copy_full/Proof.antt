@@ -4,7 +4,7 @@ use Prim.Native.Nat.{_+_, _-_}
 use native.Mathlib.Omega.{arith}
 use borrow.Author.Tests.{lt-ltb}
 use borrow.Author.Needs.{needs}
-use Rattle.router_bytes.specs.Bytes.{copyBytes}
+use Rattle.router_bytes_rules.specs.Bytes.{copyBytes}
 use Rattle.router_bytes.proofs.Counting.{left-over}
 use Rattle.router_bytes.proofs.copy_full.Statement.{statement}
 use Rattle.router_bytes.proofs.copy_full.Tie as tie

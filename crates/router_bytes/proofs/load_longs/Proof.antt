@@ -2,7 +2,7 @@
 use mathlib.Core.Path.{refl}
 use Prim.Native.Nat.{_-_}
 use borrow.Author.Needs.{needs}
-use Rattle.router_bytes.proofs.Spelled.{Read, read-turn, read-all}
+use Rattle.router_bytes_rules.proofs.Spelled.{Read, read-turn, read-all}
 use Rattle.router_bytes.proofs.load_longs.Statement.{statement}
 use Rattle.router_bytes.proofs.load_longs.Tie as tie
 

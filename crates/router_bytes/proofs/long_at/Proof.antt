@@ -3,7 +3,7 @@ use mathlib.Core.Path.{_≡_, sym, _∙_}
 use Prim.Native.Nat.{ℕ, _+_, _*_}
 use native.Mathlib.Omega.{arith}
 use borrow.Author.Needs.{needs}
-use Rattle.router_bytes.proofs.Spelled.{eight-bytes}
+use Rattle.router_bytes_rules.proofs.Spelled.{eight-bytes}
 use Rattle.router_bytes.proofs.long_at.Statement.{statement}
 use Rattle.router_bytes.proofs.long_at.Tie as tie
 

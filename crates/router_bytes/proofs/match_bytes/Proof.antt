@@ -4,8 +4,8 @@ use Prim.Native.Nat.{_+_, _≤_}
 use lib.ListN.{length}
 use borrow.Author.Tests.{ltb-true, ltb-false}
 use borrow.Author.Needs.{needs}
-use Rattle.router_bytes.specs.Bytes.{copyBytes}
-use Rattle.router_bytes.proofs.Limits.{match-taken, match-99}
+use Rattle.router_bytes_rules.specs.Bytes.{copyBytes}
+use Rattle.router_bytes_rules.proofs.Limits.{match-taken, match-99}
 use Rattle.router_bytes.proofs.match_bytes.Statement.{statement}
 use Rattle.router_bytes.proofs.match_bytes.Tie as tie
 

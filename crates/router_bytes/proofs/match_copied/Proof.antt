@@ -3,7 +3,7 @@ use mathlib.Core.Path.{ap, _∙_}
 use borrow.Author.Needs.{needs}
 use Rattle.sublist_walk_rules.specs.Matching.{Outcome, outcome}
 use Rattle.sublist_walk.specs.Answers.{matchAnswer}
-use Rattle.router_bytes.specs.Bytes.{onBytes}
+use Rattle.router_bytes_rules.specs.Bytes.{onBytes}
 use Rattle.router_bytes.proofs.match_copied.Statement.{statement}
 use Rattle.router_bytes.proofs.match_copied.Tie as tie
 

@@ -3,7 +3,7 @@ use mathlib.Core.Path.{refl, sym}
 use native.Mathlib.Omega.{arith}
 use lib.Seq.{length-take-le}
 use borrow.Author.Needs.{needs}
-use Rattle.router_bytes.proofs.Spelled.{front, front-length}
+use Rattle.router_bytes_rules.proofs.Spelled.{front, front-length}
 use Rattle.router_bytes.proofs.Copies.{part-is, same-match}
 use Rattle.router_bytes.proofs.match_into_copy.Statement.{statement}
 use Rattle.router_bytes.proofs.match_into_copy.Tie as tie

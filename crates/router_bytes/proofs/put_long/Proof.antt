@@ -5,8 +5,8 @@ use Prim.Native.Nat.{ℕ, _+_, _/_, _%_}
 use native.Mathlib.Omega.{arith}
 use borrow.Author.Needs.{needs}
 use Rattle.sublist_tree.specs.Lists.{put}
-use Rattle.router_bytes.specs.Bytes.{spelling}
-use Rattle.router_bytes.proofs.Spelled.{eight-stores}
+use Rattle.router_bytes_rules.specs.Bytes.{spelling}
+use Rattle.router_bytes_rules.proofs.Spelled.{eight-stores}
 use Rattle.router_bytes.proofs.put_long.Statement.{statement}
 use Rattle.router_bytes.proofs.put_long.Tie as tie
 

@@ -2,7 +2,7 @@
 use native.Mathlib.Omega.{arith}
 use lib.ListN.{length-set}
 use borrow.Author.Needs.{needs}
-use Rattle.router_bytes.proofs.Spelled.{four-stores}
+use Rattle.router_bytes_rules.proofs.Spelled.{four-stores}
 use Rattle.router_bytes.proofs.put_word.Statement.{statement}
 use Rattle.router_bytes.proofs.put_word.Tie as tie
 

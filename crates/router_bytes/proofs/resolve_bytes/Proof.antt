@@ -5,8 +5,8 @@ use lib.ListN.{length}
 use borrow.Author.Tests.{ltb-true, ltb-false}
 use borrow.Author.Needs.{needs}
 use Rattle.resolve_cache_rules.specs.Answers.{lent}
-use Rattle.router_bytes.specs.Bytes.{copyBytes}
-use Rattle.router_bytes.proofs.Limits.{resolve-taken, resolve-99}
+use Rattle.router_bytes_rules.specs.Bytes.{copyBytes}
+use Rattle.router_bytes_rules.proofs.Limits.{resolve-taken, resolve-99}
 use Rattle.router_bytes.proofs.Resolving.{told-bytes}
 use Rattle.router_bytes.proofs.resolve_bytes.Statement.{statement}
 use Rattle.router_bytes.proofs.resolve_bytes.Tie as tie

@@ -3,7 +3,7 @@ use mathlib.Core.Path.{sym, _∙_}
 use native.Mathlib.Omega.{arith}
 use borrow.Author.Needs.{needs}
 use Rattle.resolve_cache_rules.specs.Answers.{lent}
-use Rattle.router_bytes.proofs.Spelled.{front, front-length}
+use Rattle.router_bytes_rules.proofs.Spelled.{front, front-length}
 use Rattle.router_bytes.proofs.Resolving.{same-resolve}
 use Rattle.router_bytes.proofs.resolve_copies.Statement.{statement}
 use Rattle.router_bytes.proofs.resolve_copies.Tie as tie

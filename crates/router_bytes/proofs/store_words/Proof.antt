@@ -3,7 +3,7 @@ use mathlib.Core.Path.{refl}
 use Prim.Native.Nat.{_-_}
 use lib.ListN.{length}
 use borrow.Author.Needs.{needs}
-use Rattle.router_bytes.proofs.Spelled.{Written, write-turn, write-all}
+use Rattle.router_bytes_rules.proofs.Spelled.{Written, write-turn, write-all}
 use Rattle.router_bytes.proofs.store_words.Statement.{statement}
 use Rattle.router_bytes.proofs.store_words.Tie as tie
 

@@ -2,8 +2,8 @@
 use mathlib.Core.Path.{sym, ap, _∙_}
 use native.Mathlib.Omega.{arith}
 use borrow.Author.Needs.{needs}
-use Rattle.router_bytes.specs.Bytes.{spelled}
-use Rattle.router_bytes.proofs.Spelled.{four-bytes}
+use Rattle.router_bytes_rules.specs.Bytes.{spelled}
+use Rattle.router_bytes_rules.proofs.Spelled.{four-bytes}
 use Rattle.router_bytes.proofs.word_at.Statement.{statement}
 use Rattle.router_bytes.proofs.word_at.Tie as tie
 

@@ -3,7 +3,7 @@ use mathlib.Core.Path.{_∙_}
 use Rattle.sublist_snapshot.specs.declared.Snapshot.{Snapshot}
 use Rattle.resolve_cache_rules.specs.declared.ResolveCache.{ResolveCache}
 use Rattle.resolve_cache_rules.specs.Answers.{lent}
-use Rattle.router_bytes.specs.Bytes.{resolveBytes}
+use Rattle.router_bytes_rules.specs.Bytes.{resolveBytes}
 use Rattle.router_c.proofs.Told.{told-resolved, same-states}
 use borrow.Author.Needs.{needs}
 use Rattle.router_c.proofs.cabinet.router_resolve_bytes.Statement.{statement}

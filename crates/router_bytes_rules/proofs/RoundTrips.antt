@@ -6,8 +6,8 @@ use native.Mathlib.Nat.{le-of-suc-le-suc, not-suc-le-zero, zero-mul, suc-mul, ad
 use native.Mathlib.Omega.{arith}
 use lib.ListN.{length, take, drop, getD}
 use lib.Seq.{take-at, drop-at, drop-drop, ext-getD}
-use Rattle.router_bytes.specs.Bytes.{spelled, spelling, numbersIn, bytesOf}
-use Rattle.router_bytes.proofs.Spelled.{length-numbers, number-at, length-spelling, length-bytes}
+use Rattle.router_bytes_rules.specs.Bytes.{spelled, spelling, numbersIn, bytesOf}
+use Rattle.router_bytes_rules.proofs.Spelled.{length-numbers, number-at, length-spelling, length-bytes}
 
 -- a number is what its bytes spell
 pub spelled-spelling : (width n : ℕ) → n < 256 ^ width → spelled (spelling width n) ≡ n

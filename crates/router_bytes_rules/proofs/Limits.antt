@@ -12,7 +12,7 @@ use Rattle.sublist_snapshot.specs.declared.Snapshot.{Snapshot}
 use Rattle.resolve_cache_rules.specs.declared.ResolveCache.{ResolveCache}
 use Rattle.resolve_cache_rules.specs.Area.{Area}
 use Rattle.resolve_cache_rules.specs.Cache.{unchanged, resolve}
-use Rattle.router_bytes.specs.Bytes.{copyBytes, wordsIn, onBytes, matchBytes, inNumbers, inBytes, resolveBytes}
+use Rattle.router_bytes_rules.specs.Bytes.{copyBytes, wordsIn, onBytes, matchBytes, inNumbers, inBytes, resolveBytes}
 
 module _ (n m : ℕ) (nodes targets subject out : List ℕ) where
   pub match-taken : length nodes + length targets + length out ≤ 65536 → matchBytes n m nodes targets subject out ≡ onBytes (matchTable n m (wordsIn nodes) (wordsIn targets) subject (wordsIn out)) out

@@ -1,0 +1,2 @@
+-- What a reader must believe of the calls on areas of bytes.
+pub mod Bytes
