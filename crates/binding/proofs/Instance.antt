@@ -1,4 +1,4 @@
--- The premises of demand 3 can be met: 01's five entries, calls of every kind, a store of another table, a refused text and an output too short, through `interleaving`.
+-- The premises of demand 3 can be met: 01's five entries, built as 1, calls of every kind, a store of another table, a refused text and an output too short, through `interleaving`.
 --
 --   hashed-apart    a test of tokens that no two share a hash
 --   met-premises    the premises hold of these calls
@@ -62,7 +62,7 @@ far-sound t u e q = go (eqb (fnv t) (fnv u)) refl e
 pub hashed-apart : (ts : List (List ℕ)) → every (λ t. every (far t) ts) ts ≡ true → HashedApart ts
 hashed-apart ts e = all-of (λ t. every (far t) ts) (λ t. All (λ u. fnv t ≡ fnv u → t ≡ u) ts) (λ t q. all-of (far t) (λ u. fnv t ≡ fnv u → t ≡ u) (far-sound t) ts q) ts e
 
-pub five-built : BuiltFrom (tableOf 5 fiveEntries) fiveEntries
+pub five-built : BuiltFrom (tableOf 5 fiveEntries 1) fiveEntries
 unfolding sequence firstBad fnv fnvFrom grammar worst seek literalChild starChild added placed childOrNew onward grown planted needed worstOf buildSays counted joined lineIn linesIn told settled laidAt laid filledBy filled buildLeaves
 five-built = record {
   list = listFrom 0 fiveEntries;
@@ -76,7 +76,7 @@ five-built = record {
   textsRead = refl;
 }
 
-pub other-built : BuiltFrom (tableOf 2 otherEntries) otherEntries
+pub other-built : BuiltFrom (tableOf 2 otherEntries 0) otherEntries
 unfolding sequence firstBad fnv fnvFrom grammar worst seek literalChild starChild added placed childOrNew onward grown planted needed worstOf buildSays counted joined lineIn linesIn told settled laidAt laid filledBy filled buildLeaves
 other-built = record {
   list = listFrom 0 otherEntries;
@@ -94,19 +94,18 @@ tokens-apart : HashedApart (inPlay fiveEntries everyCall)
 unfolding fnv fnvFrom
 tokens-apart = hashed-apart (inPlay fiveEntries everyCall) refl
 
-pub met-premises : Premises (tableOf 5 fiveEntries) fiveEntries everyCall
+pub met-premises : Premises (tableOf 5 fiveEntries 1) fiveEntries everyCall
 unfolding sequence firstBad fnv fnvFrom grammar seek literalChild starChild added placed childOrNew onward grown planted counted joined lineIn linesIn told settled laidAt laid filledBy filled buildLeaves worstOf worst
 met-premises = record {
   built = five-built;
   lent = (tt, (tt, (other-built, (tt, (tt, (tt, (tt, (tt, tt))))))));
-  zeroth = refl;
   few = omega arith;
   apart = tokens-apart;
 }
 
-opened : Opened (tableOf 5 fiveEntries) (wordsFor (tableOf 5 fiveEntries)) (cabinet 1 (tableOf 5 fiveEntries))
+opened : Opened (tableOf 5 fiveEntries 1) (wordsFor (tableOf 5 fiveEntries 1)) (cabinet 1 (tableOf 5 fiveEntries 1))
 unfolding sequence firstBad fnv fnvFrom grammar seek literalChild starChild added placed childOrNew onward grown planted counted joined lineIn linesIn told settled laidAt laid filledBy filled buildLeaves worstOf worst make withCapacity
 opened = record { snapshotMade = refl; cachesMade = λ i. (1, refl) }
 
-pub met-calls : EachRight (start fiveEntries (wordsFor (tableOf 5 fiveEntries))) (cabinet 1 (tableOf 5 fiveEntries)) everyCall
-met-calls = (interleaving (tableOf 5 fiveEntries) fiveEntries everyCall met-premises (wordsFor (tableOf 5 fiveEntries)) (cabinet 1 (tableOf 5 fiveEntries))) .callsRight opened
+pub met-calls : EachRight (start fiveEntries (wordsFor (tableOf 5 fiveEntries 1))) (cabinet 1 (tableOf 5 fiveEntries 1)) everyCall
+met-calls = (interleaving (tableOf 5 fiveEntries 1) fiveEntries everyCall met-premises (wordsFor (tableOf 5 fiveEntries 1)) (cabinet 1 (tableOf 5 fiveEntries 1))) .callsRight opened

@@ -298,7 +298,7 @@ module _ (t : Table) (es : List TableEntry) (calls : List Call) (p : Premises t 
           subst (λ w. Stands (inPlay es calls) (start es area) (record { snapshot = b .snapshot; words = w; caches = b .caches })) (ap (λ (x : Made). x .area) m)
           (subst (λ x. Stands (inPlay es calls) (start es area) (record { snapshot = x; words = copied t area; caches = b .caches })) (same-numbers (first t) (b .snapshot) n) (record {
             holds = copied-holds t (rootOf fnv es) (table-holds t es (p .built)) area;
-            generation = p .zeroth;
+            generation = refl;
             next = refl;
             room = copied-length t (rootOf fnv es) (table-holds t es (p .built)) area fits;
             accepted = built-accepts t es (p .built);

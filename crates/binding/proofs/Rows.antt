@@ -22,7 +22,7 @@ use Rattle.resolve_cache_rules.proofs.Rows.{rows-hold as cache-rows}
 use Rattle.binding.specs.Verdict.{resolveSingleHome, resolveSingleHomeCached}
 use Rattle.binding.specs.Timetable.{Row, text, lent, holds, callRows, timetable}
 
--- the rows with calls compute: two of routes, two of calls, two of caches
+-- the rows with calls compute: two of routes, three of calls, two of caches
 call-rows : All holds callRows
 unfolding callRows sequence firstBad fnv fnvFrom grammar worst seek literalChild starChild added placed childOrNew onward grown planted collect push visit visits arrived onToken onTokens exact listed ended walkOver matchTable needed worstOf buildSays counted joined lineIn linesIn told settled laidAt laid filledBy filled buildLeaves make storeIn matchIn withCapacity clear resolve resolveSingleHome resolveSingleHomeCached
 call-rows = (
@@ -32,12 +32,15 @@ call-rows = (
     (
       ((1, refl), (tt, ((1, refl, (1, refl)), (tt, tt))), record { snapshotMade = refl; cachesMade = λ i. (1, refl) }, refl),
       (
-        ((2, refl), (tt, (tt, ((2, refl, (1, refl)), (tt, (tt, (tt, (tt, (tt, tt)))))))), record { snapshotMade = refl; cachesMade = λ i. (1, refl) }, refl),
+        ((1, refl), (tt, ((1, refl, (1, refl)), (tt, tt))), record { snapshotMade = refl; cachesMade = λ i. (1, refl) }, refl),
         (
-          (record { snapshotMade = refl; cachesMade = λ i. (2, refl) }, refl, refl),
+          ((2, refl), (tt, (tt, ((2, refl, (1, refl)), (tt, (tt, (tt, (tt, (tt, tt)))))))), record { snapshotMade = refl; cachesMade = λ i. (1, refl) }, refl),
           (
             (record { snapshotMade = refl; cachesMade = λ i. (2, refl) }, refl, refl),
-            tt,
+            (
+              (record { snapshotMade = refl; cachesMade = λ i. (2, refl) }, refl, refl),
+              tt,
+            ),
           ),
         ),
       ),

@@ -161,12 +161,12 @@ BuildRight list texts nodesLent targetsLent generation =
     ≡ built list texts nodesLent targetsLent generation (readFrom texts list)
 
 -- the making of the snapshot is refused exactly when its area is shorter than the first table, with 20, for a built
--- table's counts are within its areas (19);
--- it "keeps the generation that build gave it. Its counter starts at 1"
+-- table's counts are within its areas (19); it "shall stamp its first table 0, no matter what build was given";
+-- "Its counter starts at 1"
 abbrev pub SnapshotRight : Table → List ℕ → Type 0
 SnapshotRight t area =
     (make t area) .says
-    ≡ pick (ltb (length area) (wordsOf t)) (answer 20 []) (answer 0 (t .nodes ∷ t .targets ∷ t .generation .0 ∷ 1 ∷ []))
+    ≡ pick (ltb (length area) (wordsOf t)) (answer 20 []) (answer 0 (t .nodes ∷ t .targets ∷ 0 ∷ 1 ∷ []))
 
 -- 17: "capacity over 1,024, or the lent cache store is smaller than capacity slots"; a slot takes three numbers, 256
 -- bytes and 16 targets
@@ -240,8 +240,6 @@ pub record Premises (t : Table) (es : List TableEntry) (calls : List Call) : Typ
   -- "The tables come from accepted builds and are lent with their areas as build left them"
   pub built : BuiltFrom t es
   pub lent : All Lent calls
-  -- "the first of generation 0"
-  pub zeroth : t .generation .0 ≡ 0
   -- "There are fewer than 2^64 stores"
   pub few : storesIn calls < 2 ^ 64
   -- "and no two different literal tokens in play share a hash"

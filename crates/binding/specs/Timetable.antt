@@ -34,17 +34,17 @@ listFrom at (e ∷ es) =
     record { start = at; length = length (e .pattern); target = e .target }
     ∷ listFrom (at + length (e .pattern)) es
 
--- what build answers for these entries, lent so many nodes, and the table of generation 0 that it leaves
-abbrev pub buildFor : ℕ → List TableEntry → Answer
-buildFor nodes es = buildSays (listFrom 0 es) (texts es) nodes (length es) 0
+-- what build answers for these entries, lent so many nodes and given a generation, and the table that it leaves
+abbrev pub buildFor : ℕ → List TableEntry → ℕ → Answer
+buildFor nodes es generation = buildSays (listFrom 0 es) (texts es) nodes (length es) generation
 
-abbrev pub tableLeft : ℕ → ℕ → Filling → Table
-tableLeft nodes targets (filling a ts) =
-    record { nodes = nodes; targets = targets; generation = record { 0 = 0 }; nodeWords = a; targetWords = ts }
+abbrev pub tableLeft : ℕ → ℕ → ℕ → Filling → Table
+tableLeft nodes targets generation (filling a ts) =
+    record { nodes = nodes; targets = targets; generation = record { 0 = generation }; nodeWords = a; targetWords = ts }
 
-abbrev pub tableOf : ℕ → List TableEntry → Table
-tableOf nodes es =
-    tableLeft nodes (length es)
+abbrev pub tableOf : ℕ → List TableEntry → ℕ → Table
+tableOf nodes es generation =
+    tableLeft nodes (length es) generation
     (buildLeaves (listFrom 0 es) (texts es) (replicate (nodes * 16) 0) (replicate (length es) 0))
 
 -- a snapshot's area as long as the table, a cache's area, and the cabinet of fresh makings in them
@@ -95,18 +95,19 @@ pub data Row : Type 0 where
   -- entries, a subject, its list and verdict, the peak, the worst case, the node count
   asRoute :
       (entries : List TableEntry) (subject : String) (list : List ℕ) (verdict : Resolution) (peak worst nodes : ℕ) → Row
-  -- the node count and entries of the first table, calls and their replies
-  asCalls : (nodes : ℕ) (entries : List TableEntry) (calls : List Call) (answers : List Reply) → Row
+  -- the node count and entries of the first table, the generation that its build was given; calls and their replies
+  asCalls :
+      (nodes : ℕ) (entries : List TableEntry) (generation : ℕ) (calls : List Call) (answers : List Reply) → Row
   -- a capacity, calls on a cache over the empty table, the walks counted and the subjects kept at the end
   asCache : (capacity : ℕ) (calls : List Call) (walks : ℕ) (kept : List String) → Row
 
 -- build accepts the entries, lent so many nodes, all of which it uses
-abbrev pub Accepts : ℕ → List TableEntry → Type 0
-Accepts nodes es = (worst : ℕ) × (buildFor nodes es ≡ answer 0 (nodes ∷ worst ∷ 0 ∷ []))
+abbrev pub Accepts : ℕ → List TableEntry → ℕ → Type 0
+Accepts nodes es generation = (worst : ℕ) × (buildFor nodes es generation ≡ answer 0 (nodes ∷ worst ∷ generation ∷ []))
 
 -- a table that is stored is as an accepted build of its entries left it
 abbrev pub Stored : Call → Type 0
-Stored (store t es) = (nodes : ℕ) × (t ≡ tableOf nodes es) × Accepts nodes es
+Stored (store t es) = (nodes : ℕ) × (t ≡ tableOf nodes es 0) × Accepts nodes es 0
 Stored (clearing i) = Unit {0}
 Stored (asking subject out) = Unit {0}
 Stored (resolving i subject out) = Unit {0}
@@ -122,15 +123,15 @@ abbrev pub holds : Row → Type 0
 holds (text row) = holdsText row
 holds (lent row) = holdsLent row
 holds (asRoute es subject list verdict peak worst nodes) =
-    (buildFor nodes es ≡ answer 0 (nodes ∷ worst ∷ 0 ∷ [])) × Opens 1 (tableOf nodes es)
-    × (replies (cabinet 1 (tableOf nodes es)) (ask subject ∷ resolve subject ∷ [])
+    (buildFor nodes es 0 ≡ answer 0 (nodes ∷ worst ∷ 0 ∷ [])) × Opens 1 (tableOf nodes es 0)
+    × (replies (cabinet 1 (tableOf nodes es 0)) (ask subject ∷ resolve subject ∷ [])
     ≡ matched list verdict peak 0 ∷ resolved list verdict ∷ [])
-holds (asCalls nodes es calls answers) =
-    Accepts nodes es × All Stored calls × Opens 1 (tableOf nodes es)
-    × (replies (cabinet 1 (tableOf nodes es)) calls ≡ answers)
+holds (asCalls nodes es generation calls answers) =
+    Accepts nodes es generation × All Stored calls × Opens 1 (tableOf nodes es generation)
+    × (replies (cabinet 1 (tableOf nodes es generation)) calls ≡ answers)
 holds (asCache capacity calls walks kept) =
-    let k = (leaving (cabinet capacity (tableOf 1 [])) calls) .caches 0 in
-    Opens capacity (tableOf 1 []) × (k .cache .walks ≡ walks) × (subjectsIn k ≡ map bytes kept)
+    let k = (leaving (cabinet capacity (tableOf 1 [] 0)) calls) .caches 0 in
+    Opens capacity (tableOf 1 [] 0) × (k .cache .walks ≡ walks) × (subjectsIn k ≡ map bytes kept)
 
 -- 01's five entries, and calls of every kind
 abbrev pub fiveEntries : List TableEntry
@@ -141,7 +142,7 @@ otherEntries = entry "c" 7 ∷ []
 
 abbrev pub everyCall : List Call
 everyCall =
-    ask "a.b" ∷ resolve "a.b" ∷ store (tableOf 2 otherEntries) otherEntries ∷ resolve "a.b"
+    ask "a.b" ∷ resolve "a.b" ∷ store (tableOf 2 otherEntries 0) otherEntries ∷ resolve "a.b"
     ∷ resolvingHome 0 (bytes "c") (0 ∷ [])
     ∷ clearing 0 ∷ resolve "*" ∷ askingHome (bytes "c") [] ∷ []
 
@@ -154,11 +155,14 @@ callRows =
     -- no entries, subject `a`: NoStream, peak 1, worst case 1, nodes 1
     ∷ asRoute [] "a" [] NoStream 1 1 1
     -- first table a 7, generation 0: resolve `a` is Routed 7; store the empty table (generation 1): NoStream
-    ∷ asCalls 2 (entry "a" 7 ∷ []) (resolve "a" ∷ store (tableOf 1 []) [] ∷ resolve "a" ∷ [])
+    ∷ asCalls 2 (entry "a" 7 ∷ []) 0 (resolve "a" ∷ store (tableOf 1 [] 0) [] ∷ resolve "a" ∷ [])
     (resolved (7 ∷ []) (Routed 7) ∷ storing 1 ∷ resolved [] NoStream ∷ [])
-    -- ours, not 01's: calls of every kind on the five entries, with a store, a refused text and an output too short;
-    -- demand 3's premises hold of them (Instance)
-    ∷ asCalls 5 fiveEntries everyCall
+    -- 2026-03: first table a 7 built as 1: resolve `a` is Routed 7; store the empty table (generation 1): NoStream
+    ∷ asCalls 2 (entry "a" 7 ∷ []) 1 (resolve "a" ∷ store (tableOf 1 [] 0) [] ∷ resolve "a" ∷ [])
+    (resolved (7 ∷ []) (Routed 7) ∷ storing 1 ∷ resolved [] NoStream ∷ [])
+    -- ours, not 01's: calls of every kind on the five entries, built as 1, with a store, a refused text and an output
+    -- too short; demand 3's premises hold of them (Instance)
+    ∷ asCalls 5 fiveEntries 1 everyCall
     (matched (2 ∷ 4 ∷ 1 ∷ 5 ∷ 3 ∷ []) (Ambiguous 5) 2 0 ∷ resolved (2 ∷ 4 ∷ 1 ∷ 5 ∷ 3 ∷ []) (Ambiguous 5) ∷ storing 1
     ∷ resolved [] NoStream ∷ home (Routed 7) [] ∷ cleared
     ∷ refused (answer 7 (code "*" ∷ 0 ∷ [])) ∷ refused (answer 21 (1 ∷ [])) ∷ [])

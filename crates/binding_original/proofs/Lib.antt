@@ -18,5 +18,7 @@ pub mod Resolves
 pub mod SameCalls
 -- The theorem, with nothing left open.
 pub mod Whole
+-- The original's first table built as 1: the intended difference.
+pub mod First
 -- Two snapshots of one generation and one cache.
 pub mod Shared

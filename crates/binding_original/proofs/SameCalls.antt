@@ -88,18 +88,18 @@ module _ (std : Std) (iter : Iter ℕ) where
   same-numbers s u e =
       ap (λ (l : List ℕ). record { nodes = getD l 0 0; targets = getD l 1 0; generation = record { 0 = getD l 2 0 }; next = record { 0 = getD l 3 0 } }) e
 
-  -- a snapshot of ours is made of a table, one of theirs of a table of the same entries and generation
+  -- a snapshot of ours is made of a table, one of theirs of a table of the same entries, built as 0
   module _ (t : Table) (es : List TableEntry) (built : BuiltFrom t es) (area : List ℕ) (table : Sublist ℕ) (few : length es ≤ 2048)
-      (made : build std (builderOf es) (t .generation .0) ≡ Ok table) where
-    whole : original.stamp table (t .generation .0) ≡ table
-    whole = stamped-same std (builderOf es) (t .generation .0) table made
+      (made : build std (builderOf es) 0 ≡ Ok table) where
+    whole : original.stamp table 0 ≡ table
+    whole = stamped-same std (builderOf es) 0 table made
 
     at-first : Both std es (record { snapshot = first t; words = copied t area }) (original.new table)
     at-first = record {
       accepted = built-accepts t es built;
       worst-case = built-bound t es built;
       holds = copied-holds t (rootOf fnv es) (table-holds t es built) area;
-      walks = subst (Walks std es) whole (stamped-walks std es table (built-accepts t es built) (few, t .generation .0, made) (t .generation .0));
+      walks = subst (Walks std es) whole (stamped-walks std es table (built-accepts t es built) (few, 0, made) 0);
       generation = ap (λ (x : Sublist ℕ). x .generation) (sym whole);
       next = refl;
     }
@@ -120,7 +120,7 @@ module _ (std : Std) (iter : Iter ℕ) where
             (subst (λ u. Both std es (record { snapshot = u; words = copied t area }) (original.new table)) (same-numbers (first t) (s .snapshot) n) at-first)
 
   module _ (ts : ℕ → Table) (es : ℕ → List TableEntry) (built : (j : ℕ) → BuiltFrom (ts j) (es j)) (areas : ℕ → List ℕ) (y : Yard)
-      (opened : (j : ℕ) → Opened (ts j) (areas j) (cabinetOf y j)) (w : World) (fresh : Fresh std es (λ j. ts j .generation .0) w)
+      (opened : (j : ℕ) → Opened (ts j) (areas j) (cabinetOf y j)) (w : World) (fresh : Fresh std es w)
       (alike : (i : ℕ) → w .caches i .capacity ≡ y .caches i .cache .capacity) where
     start : Together std unseen 0 y w
     start = record {

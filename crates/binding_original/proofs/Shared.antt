@@ -1,10 +1,10 @@
--- What two snapshots of one generation do with one cache: a list that a resolve through the one left is handed back through the other. So do ours, and so does the original.
+-- What two snapshots, both of generation 0, do with one cache: a list that a resolve through the one left is handed back through the other. So do ours, and so does the original.
 --
 --   one-cache-two-snapshots    snapshot 0 has the table of a 7, snapshot 1 the empty one: resolve `a` through 0, then through 1, is Routed 7 both times; through 1, then through 0, NoStream
 --   original-too               through 0, then through 1, the original's list is 7 both times, by pairs-same
 use Prim.Native.Nat.{ℕ, zero, suc}
 use native.Mathlib.Omega.{arith}
-use mathlib.Core.Path.{_≡_, refl, sym, _∙_, ap, subst, fun-ext}
+use mathlib.Core.Path.{_≡_, refl, sym, _∙_, ap}
 use mathlib.Core.List.{List, [], _∷_}
 use lib.ListN.{replicate}
 use Rattle.subject_rules.specs.Utf8.{sequence, firstBad}
@@ -34,14 +34,14 @@ use Rattle.binding_original.specs.Calls.{Yard, cabinetOf, NamedCall, rep
 use Rattle.binding_original.specs.Caches.{unseen, EachSame}
 use Rattle.binding_original.proofs.Whole.{pairs-same}
 
--- snapshot 0 has the table of a 7, every other the empty table, all of generation 0
+-- snapshot 0 has the table of a 7, every other the empty table
 abbrev pub entriesIn : ℕ → List TableEntry
 entriesIn zero = entry "a" 7 ∷ []
 entriesIn (suc j) = []
 
 abbrev pub tableIn : ℕ → Table
-tableIn zero = tableOf 2 (entry "a" 7 ∷ [])
-tableIn (suc j) = tableOf 1 []
+tableIn zero = tableOf 2 (entry "a" 7 ∷ []) 0
+tableIn (suc j) = tableOf 1 [] 0
 
 -- fresh makings of them, and fresh caches of capacity 1
 abbrev pub yard : Yard
@@ -67,8 +67,8 @@ one-cache-two-snapshots = (refl, refl)
 
 -- ---- the original's side
 
--- accepted builds and makings, with generation 0
-made : (j : ℕ) → BuiltFrom (tableIn j) (entriesIn j) × Opened (tableIn j) (wordsFor (tableIn j)) (cabinetOf yard j) × (0 ≡ tableIn j .generation .0)
+-- accepted builds and makings
+made : (j : ℕ) → BuiltFrom (tableIn j) (entriesIn j) × Opened (tableIn j) (wordsFor (tableIn j)) (cabinetOf yard j)
 unfolding sequence firstBad fnv fnvFrom grammar worst seek literalChild starChild added placed childOrNew onward grown planted needed worstOf buildSays counted joined lineIn linesIn told settled laidAt laid filledBy filled buildLeaves make withCapacity
 made zero = (
   record {
@@ -83,12 +83,10 @@ made zero = (
     textsRead = refl;
   },
   record { snapshotMade = refl; cachesMade = λ i. (1, refl) },
-  refl,
 )
 made (suc j) = (
   record { list = []; store = []; nodesLent = replicate 16 0; targetsLent = []; worstCase = 1; accepted = refl; areasLeft = refl; oneEach = refl; textsRead = refl },
   record { snapshotMade = refl; cachesMade = λ i. (1, refl) },
-  refl,
 )
 
 -- the same call of theirs
@@ -104,12 +102,12 @@ told-list list verdict more (theirs.matched l g) q = let z : _≡_ {A = ℕ} 0 1
 told-list list verdict more (theirs.resolved l) q = let same : list ≡ l = cc in ap theirs.resolved (sym same)
 told-list list verdict more (theirs.home v) q = let z : _≡_ {A = ℕ} 0 1 = cc in absurd (omega arith)
 
--- any fresh snapshots of the same entries and generation, any fresh caches of the same capacity
-module _ (std : Std) (iter : Iter ℕ) (w : World) (begins : Fresh std entriesIn (λ j. 0) w) (capacities : (i : ℕ) → w .caches i .capacity ≡ 1) where
+-- any fresh snapshots of the same entries, any fresh caches of the same capacity
+module _ (std : Std) (iter : Iter ℕ) (w : World) (begins : Fresh std entriesIn w) (capacities : (i : ℕ) → w .caches i .capacity ≡ 1) where
   each-same : EachSame std iter unseen yard w (alike 0 ∷ alike 1 ∷ [])
   each-same =
       pairs-same std iter tableIn entriesIn (alike 0 ∷ alike 1 ∷ []) (λ j. made j .0) (tt, (tt, tt)) ((begins .tables 0, refl, tt), ((begins .tables 1, refl, tt), tt)) (omega arith)
-      (λ j. wordsFor (tableIn j)) yard (λ j. made j .1) w (subst (λ g. Fresh std entriesIn g w) (fun-ext λ j. made j .2) begins) capacities
+      (λ j. wordsFor (tableIn j)) yard (λ j. made j .1) w begins capacities
 
   pub original-too : (u v : World) × (call std iter w (resolves 0 0 (bytes "a")) ≡ Ok (theirs.resolved (7 ∷ []), u))
       × (call std iter u (resolves 0 1 (bytes "a")) ≡ Ok (theirs.resolved (7 ∷ []), v))

@@ -83,7 +83,7 @@ fresh-capacity n c a e = go (short (max 1 n) a) e
 
 pub pairs-same : (std : Std) (iter : Iter ℕ) (ts : ℕ → Table) (es : ℕ → List TableEntry) (calls : List (NamedCall × Asked))
     → ((j : ℕ) → BuiltFrom (ts j) (es j)) → All Lent (firsts calls) → All (SameCall std) calls → length calls < 2 ^ 64
-    → (areas : ℕ → List ℕ) (y : Yard) → ((j : ℕ) → Opened (ts j) (areas j) (cabinetOf y j)) → (w : World) → Fresh std es (λ j. ts j .generation .0) w
+    → (areas : ℕ → List ℕ) (y : Yard) → ((j : ℕ) → Opened (ts j) (areas j) (cabinetOf y j)) → (w : World) → Fresh std es w
     → ((i : ℕ) → w .caches i .capacity ≡ y .caches i .cache .capacity) → EachSame std iter unseen y w calls
 pairs-same std iter ts es calls built lent same few areas y opened w fresh alike = calls-same std iter ts es built areas y opened w fresh alike calls lent same few
 
@@ -93,7 +93,7 @@ pub record Original (std : Std) (iter : Iter ℕ) (ts : ℕ → Table) (es : ℕ
   pub of-ours : map (λ x. x .0) both-calls ≡ calls
   pub same-calls : All (SameCall std) both-calls
   pub world : World
-  pub begins : Fresh std es (λ j. ts j .generation .0) world
+  pub begins : Fresh std es world
   pub capacities : (i : ℕ) → world .caches i .capacity ≡ y .caches i .cache .capacity
   pub answers : EachSame std iter unseen y world both-calls
 
@@ -110,8 +110,8 @@ original-same std iter ts es calls built lent few areas y opened = record {
   answers = pairs-same std iter ts es xs built (ps .3) (ps .2) (omega (arith, few, length-map xs (λ x. x .0), ap length (ps .1))) areas y opened w begins alike;
 }
   where
-    made : (j : ℕ) → (table : Sublist ℕ) × (build std (builderOf (es j)) (ts j .generation .0) ≡ Ok table)
-    made j = their-table std (ts j) (es j) (built j) (ts j .generation .0)
+    made : (j : ℕ) → (table : Sublist ℕ) × (build std (builderOf (es j)) 0 ≡ Ok table)
+    made j = their-table std (ts j) (es j) (built j) 0
 
     ps : (xs : List (NamedCall × Asked)) × (map (λ x. x .0) xs ≡ calls) × All (SameCall std) xs × All Lent (firsts xs)
     ps = partners std (made 0 .0) calls lent
@@ -126,7 +126,7 @@ original-same std iter ts es calls built lent few areas y opened = record {
     w : World
     w = record { snapshots = λ j. new (made j .0); caches = λ i. with-capacity (number i) }
 
-    begins : Fresh std es (λ j. ts j .generation .0) w
+    begins : Fresh std es w
     begins = record { tables = λ j. made j .0; few = λ j. built-few (ts j) (es j) (built j); built = λ j. made j .1; made = λ j. refl; caches = λ i. (number i, refl) }
 
     alike : (i : ℕ) → w .caches i .capacity ≡ y .caches i .cache .capacity

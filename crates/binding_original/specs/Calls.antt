@@ -191,10 +191,11 @@ Tabled std table (resolvingHome i subject out) = Unit {0}
 abbrev pub SameCall : Std → NamedCall × Asked → Type 0
 SameCall std (n, d) = (table : Sublist ℕ) × (d ≡ asked table n) × Tabled std table (n .1)
 
--- fresh snapshots, each of a table with its entries, built with its generation; and fresh caches
-pub record Fresh (std : Std) (es : ℕ → List TableEntry) (generations : ℕ → ℕ) (w : World) : Type 0 where
+-- fresh snapshots, each of a table with its entries; and fresh caches. "Demand 2's equality .. [is] for a first table
+-- built as 0"
+pub record Fresh (std : Std) (es : ℕ → List TableEntry) (w : World) : Type 0 where
   pub tables : ℕ → Sublist ℕ
   pub few : (j : ℕ) → length (es j) ≤ 2048
-  pub built : (j : ℕ) → build std (builderOf (es j)) (generations j) ≡ Ok (tables j)
+  pub built : (j : ℕ) → build std (builderOf (es j)) 0 ≡ Ok (tables j)
   pub made : (j : ℕ) → w .snapshots j ≡ original.new (tables j)
   pub caches : (i : ℕ) → (n : ℕ) × (w .caches i ≡ original.with-capacity n)

@@ -1,4 +1,4 @@
-// Replays the recording on standard input: 6,585 calls, each with what the original answered. The call is made here,
+// Replays the recording on standard input: 6,565 calls, each with what the original answered. The call is made here,
 // through the C calls of the router, and each value that differs is said and counted.
 //
 // The recording (the file stdin) holds the grammar on short texts and on those at its limits; patterns against

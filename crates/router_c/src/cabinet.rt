@@ -26,7 +26,8 @@ ghost use Rattle.router_words.specs.Words.{answerIn, cacheIn, Makes, Stores, Re
 ghost use Rattle.router_bytes_rules.specs.Bytes.{resolveBytes};
 ghost use Rattle.router_bytes.specs.Answers.{bytesAnswer};
 
-// A snapshot of a first table, whose words are copied to the area: its state, or why not.
+// A snapshot of a first table, whose words are copied to the area, stamped 0; the generation that build gave it is not
+// used. Its state, or why not.
 #[no_mangle]
 pub extern "C" fn router_snapshot_new(
     nodes: usize,

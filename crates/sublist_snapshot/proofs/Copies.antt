@@ -72,7 +72,7 @@ module _ (t : Table) (ls : List (Line ℕ)) (H : HoldsLent t ls) where
     unfolding make
     make-full h = rw (table-full h)
 
-    pub make-fits : lengthOf t ≤ length area → make t area ≡ record { says = answer 0 (t .nodes ∷ t .targets ∷ t .generation .0 ∷ 1 ∷ []); area = copied t area }
+    pub make-fits : lengthOf t ≤ length area → make t area ≡ record { says = answer 0 (t .nodes ∷ t .targets ∷ 0 ∷ 1 ∷ []); area = copied t area }
     unfolding make
     make-fits h = rw (table-fits h)
 

@@ -12,4 +12,4 @@ use Rattle.sublist_snapshot.specs.Rows.{holds, rows}
 
 pub rows-hold : All holds rows
 unfolding rows sequence firstBad fnv fnvFrom grammar seek literalChild starChild collect push visit visits arrived onToken onTokens exact listed ended walkOver matchTable make makeEmpty storeIn matchIn
-rows-hold = (refl, (refl, (refl, (refl, (refl, (refl, (refl, ((refl, refl), ((refl, refl), ((refl, refl), (refl, ((refl, refl), (refl, (refl, (refl, (refl, (refl, (refl, (refl, (refl, tt))))))))))))))))))))
+rows-hold = (refl, (refl, (refl, (refl, (refl, (refl, (refl, (refl, (refl, ((refl, refl), ((refl, refl), ((refl, refl), (refl, ((refl, refl), (refl, (refl, (refl, (refl, (refl, (refl, (refl, (refl, tt))))))))))))))))))))))

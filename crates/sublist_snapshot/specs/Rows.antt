@@ -62,10 +62,13 @@ holds (asMatch s area subject out says left) = matchIn s area subject out ≡ ou
 
 unfoldable pub rows : List Row
 rows =
-    -- "A snapshot copies its first table and keeps the generation that build gave it"; "Its counter starts at 1";
-    -- words behind the table stay
-    asMaking (table 1 1 7 (upTo 16) (8 ∷ [])) (replicate 19 5) (answer 0 (1 ∷ 1 ∷ 7 ∷ 1 ∷ []))
+    -- "A snapshot copies its first table"; "stamp its first table 0, no matter what build was given"; "Its counter
+    -- starts at 1"; words behind the table stay
+    asMaking (table 1 1 0 (upTo 16) (8 ∷ [])) (replicate 19 5) (answer 0 (1 ∷ 1 ∷ 0 ∷ 1 ∷ []))
     (upTo 16 ++ (8 ∷ 5 ∷ 5 ∷ []))
+    ∷ asMaking (table 1 1 1 (upTo 16) (8 ∷ [])) (replicate 17 5) (answer 0 (1 ∷ 1 ∷ 0 ∷ 1 ∷ [])) (upTo 16 ++ (8 ∷ []))
+    ∷ asMaking (table 1 1 (2 ^ 64 - 1) (upTo 16) (8 ∷ [])) (replicate 17 5) (answer 0 (1 ∷ 1 ∷ 0 ∷ 1 ∷ []))
+    (upTo 16 ++ (8 ∷ []))
     -- the root alone, of generation 0
     ∷ asEmpty (replicate 17 5) (answer 0 (1 ∷ 0 ∷ 0 ∷ 1 ∷ [])) (replicate 16 0 ++ (5 ∷ []))
     ∷ asEmpty (replicate 15 5) (answer 20 []) (replicate 15 5)

@@ -47,9 +47,9 @@ wordsOf t = take (t .nodes * 16) (t .nodeWords) ++ take (t .targets) (t .targetW
 abbrev pub copied : Table → List ℕ → List ℕ
 copied t area = over (wordsOf t) area
 
--- a fresh snapshot keeps the generation that build gave its first table, and its counter starts at 1
+-- a fresh snapshot stamps its first table 0, no matter what build was given, and its counter starts at 1
 abbrev pub first : Table → Snapshot
-first t = record { nodes = t .nodes; targets = t .targets; generation = t .generation; next = record { 0 = 1 } }
+first t = record { nodes = t .nodes; targets = t .targets; generation = record { 0 = 0 }; next = record { 0 = 1 } }
 
 -- a stored table is stamped with the counter, which goes up by one
 abbrev pub stored : Snapshot → Table → Snapshot

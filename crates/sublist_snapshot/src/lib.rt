@@ -18,7 +18,8 @@ use sublist_walk::TableMatch;
 // Which table an answer came from. A generation is never a tick.
 pub struct Generation(pub u64);
 
-// A table by its counts and the generation that build gave it; its words are lent beside it.
+// A table by its counts and its generation: the one that build gave it, or its stamp if it stands in a snapshot. Its
+// words are lent beside it.
 pub struct Sublist {
     pub nodes: usize,
     pub targets: usize,
@@ -73,7 +74,7 @@ enum Copied {
 }
 
 impl Sublist {
-    // The generation that build gave the table.
+    // The generation that build gave the table, or its stamp.
     pub fn generation(self) -> Generation
         ensures { λ r. ⌜ r ≡ self .generation ⌝ }
     {
@@ -89,7 +90,7 @@ impl Sublist {
 }
 
 impl Snapshot {
-    // A snapshot of a first table, which is copied to the area: 19, then 20.
+    // A snapshot of a first table, which is copied to the area and stamped 0: 19, then 20.
     pub fn new(
         table: Sublist,
         node_words: &[u32],
@@ -103,15 +104,12 @@ impl Snapshot {
         match copy_table(table, node_words, target_words, area) {
             Copied::Damaged => MadeSnapshot::Damaged,
             Copied::StoreFull => MadeSnapshot::StoreFull,
-            Copied::Done => {
-                let generation = table.generation;
-                MadeSnapshot::Made(Snapshot {
-                    nodes: table.nodes,
-                    targets: table.targets,
-                    generation,
-                    next: Generation(1),
-                })
-            }
+            Copied::Done => MadeSnapshot::Made(Snapshot {
+                nodes: table.nodes,
+                targets: table.targets,
+                generation: Generation(0),
+                next: Generation(1),
+            }),
         }
     }
 

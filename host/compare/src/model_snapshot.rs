@@ -30,8 +30,8 @@ fn copy(table: Words, area: &mut [u32]) {
     back[..table.targets].copy_from_slice(&table.target_words[..table.targets]);
 }
 
-/// `new`: the first table keeps its generation, and the counter starts at 1.
-pub fn make(table: Words, generation: u64, area: &mut [u32]) -> MadeSnapshot {
+/// `new`: the first table is stamped 0, whatever generation build was given, and the counter starts at 1.
+pub fn make(table: Words, area: &mut [u32]) -> MadeSnapshot {
     if let Some(number) = refused(table, area) {
         return MadeSnapshot {
             number,
@@ -43,12 +43,33 @@ pub fn make(table: Words, generation: u64, area: &mut [u32]) -> MadeSnapshot {
         number: 0,
         nodes: table.nodes as u64,
         targets: table.targets as u64,
-        generation,
+        generation: 0,
         next: 1,
     }
 }
 
-/// `empty`: the root alone, of generation 0.
+/// A state by the numbers of an answer.
+fn state(nodes: u64, targets: u64, generation: u64, next: u64) -> SnapshotState {
+    SnapshotState {
+        nodes: nodes as usize,
+        targets: targets as usize,
+        generation,
+        next,
+    }
+}
+
+/// The state that an accepted making returned.
+pub fn state_made(made: MadeSnapshot) -> SnapshotState {
+    state(made.nodes, made.targets, made.generation, made.next)
+}
+
+/// The state that a store returned.
+pub fn state_after(stored: Stored) -> SnapshotState {
+    let (nodes, targets) = (stored.nodes, stored.targets);
+    state(nodes, targets, stored.generation, stored.next)
+}
+
+/// `empty`: the root alone.
 pub fn make_empty(area: &mut [u32]) -> MadeSnapshot {
     let root = Words {
         nodes: 1,
@@ -56,7 +77,7 @@ pub fn make_empty(area: &mut [u32]) -> MadeSnapshot {
         node_words: &[0; NODE_WORDS],
         target_words: &[],
     };
-    make(root, 0, area)
+    make(root, area)
 }
 
 fn stored(number: u64, stamped: u64, state: SnapshotState) -> Stored {

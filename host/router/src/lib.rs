@@ -16,7 +16,7 @@
 //!     list.insert(b"yard.*.signal.*.aspect", 40)?;
 //!
 //!     let (mut nodes, mut targets) = ([0; 16 * 20], [0; 10]);
-//!     let built = list.build(0, &mut nodes, &mut targets)?;
+//!     let built = list.build(&mut nodes, &mut targets)?;
 //!     let mut area = [0; 16 * 20 + 10];
 //!     let snapshot = Snapshot::new(&built.table, &mut area)?;
 //!
@@ -49,4 +49,4 @@ pub use resolve_cache::{Listed, ResolveCache};
 pub use subject::{
     depth, has_tail_wildcard, matches, nth_token, parse, parse_literal, token_hash, tokens,
 };
-pub use sublist::{build, Built, List, Match, Snapshot, Table};
+pub use sublist::{build, Built, List, Match, Snapshot, StandingMatch, Table};

@@ -75,17 +75,10 @@ impl<'a> List<'a> {
     /// The table of the list in lent areas, or why there is none: 12 to 16. [`List::most_nodes`] and [`List::len`] say how much is enough.
     pub fn build<'t>(
         &self,
-        generation: u64,
         node_words: &'t mut [u32],
         target_words: &'t mut [u32],
     ) -> Result<Built<'t>, Refusal> {
-        build(
-            self.numbers(),
-            self.texts(),
-            generation,
-            node_words,
-            target_words,
-        )
+        build(self.numbers(), self.texts(), node_words, target_words)
     }
 }
 
@@ -96,21 +89,22 @@ pub struct Built<'t> {
     pub worst_case: usize,
 }
 
+/// The generation that [`raw`] is told of a table that no snapshot has stamped: a snapshot stamps its first table 0 and each stored one with its counter, whatever it is.
+const UNSTAMPED: u64 = 0;
+
 /// The table of any numbers, three an entry, and any bytes as the text store; or 10, 12 to 16.
 pub fn build<'t>(
     numbers: &[usize],
     store: &[u8],
-    generation: u64,
     node_words: &'t mut [u32],
     target_words: &'t mut [u32],
 ) -> Result<Built<'t>, Refusal> {
-    let answer = raw::build(numbers, store, node_words, target_words, generation);
-    let [nodes, worst_case, generation] = accepted(answer)?;
+    let answer = raw::build(numbers, store, node_words, target_words, UNSTAMPED);
+    let [nodes, worst_case, _] = accepted(answer)?;
     Ok(Built {
         table: Table {
             nodes: size(nodes),
             targets: numbers.len() / ENTRY_NUMBERS,
-            generation,
             node_words,
             target_words,
         },
@@ -119,18 +113,25 @@ pub fn build<'t>(
 }
 
 /// A table: the original's `Sublist` in lent areas. Any counts and words may be put together; every call on them ends with a result or a refusal.
+/// It has no generation until it stands in a [`Snapshot`].
 #[derive(Clone, Copy, Debug)]
 pub struct Table<'a> {
     pub nodes: usize,
     pub targets: usize,
-    pub generation: u64,
     pub node_words: &'a [u32],
     pub target_words: &'a [u32],
 }
 
-/// The list that a match found, in the order of the scope document; the largest number of nodes that the walk stood at; the table's generation.
+/// The list that a match found, in the order of the scope document; the largest number of nodes that the walk stood at.
 #[derive(Clone, Copy, Debug, PartialEq, Eq)]
 pub struct Match<'o> {
+    pub list: &'o [u32],
+    pub peak: usize,
+}
+
+/// A match in the standing table, and that table's generation.
+#[derive(Clone, Copy, Debug, PartialEq, Eq)]
+pub struct StandingMatch<'o> {
     pub list: &'o [u32],
     pub peak: usize,
     pub generation: u64,
@@ -140,11 +141,6 @@ impl Table<'_> {
     /// How many nodes the table has.
     pub const fn node_count(&self) -> usize {
         self.nodes
-    }
-
-    /// The generation that the build was given.
-    pub const fn generation(&self) -> u64 {
-        self.generation
     }
 
     /// The targets that a subject matches, in the first places of `out`; or 1 to 9, 19, 21. An output as long as the table's targets is never short.
@@ -161,7 +157,6 @@ impl Table<'_> {
         Ok(Match {
             list: front(out, length),
             peak: size(peak),
-            generation: self.generation,
         })
     }
 }
@@ -174,12 +169,12 @@ pub struct Snapshot<'a> {
 }
 
 impl<'a> Snapshot<'a> {
-    /// A snapshot with a copy of its first table, which keeps its generation; or 19, 20. [`crate::table_words`] says how long the area must be.
+    /// A snapshot with a copy of its first table, stamped 0; or 19, 20. [`crate::table_words`] says how long the area must be.
     pub fn new(table: &Table<'_>, area: &'a mut [u32]) -> Result<Snapshot<'a>, Refusal> {
         let made = raw::snapshot_new(
             table.nodes,
             table.targets,
-            table.generation,
+            UNSTAMPED,
             table.node_words,
             table.target_words,
             area,
@@ -187,7 +182,7 @@ impl<'a> Snapshot<'a> {
         Snapshot::made(made, area)
     }
 
-    /// A snapshot whose first table has no entries and generation 0; or 20.
+    /// A snapshot whose first table has no entries, stamped 0; or 20.
     pub fn empty(area: &'a mut [u32]) -> Result<Snapshot<'a>, Refusal> {
         let made = raw::snapshot_empty(area);
         Snapshot::made(made, area)
@@ -217,7 +212,7 @@ impl<'a> Snapshot<'a> {
             self.state,
             table.nodes,
             table.targets,
-            table.generation,
+            UNSTAMPED,
             table.node_words,
             table.target_words,
             self.area,
@@ -242,10 +237,14 @@ impl<'a> Snapshot<'a> {
     }
 
     /// The targets that a subject matches in the standing table, in the first places of `out`; or 1 to 9, 19, 21.
-    pub fn match_into<'o>(&self, subject: &[u8], out: &'o mut [u32]) -> Result<Match<'o>, Refusal> {
+    pub fn match_into<'o>(
+        &self,
+        subject: &[u8],
+        out: &'o mut [u32],
+    ) -> Result<StandingMatch<'o>, Refusal> {
         let answer = raw::snapshot_match(self.state, self.area, subject, out);
         let [length, peak, generation] = accepted(answer)?;
-        Ok(Match {
+        Ok(StandingMatch {
             list: front(out, length),
             peak: size(peak),
             generation,
@@ -271,18 +270,14 @@ mod tests {
         assert_eq!((list.len(), list.text_bytes()), (5, 13));
         assert_eq!(list.insert(b"c", 6), Err(Refusal::EntriesFull));
         let (mut nodes, mut targets, mut out) = ([0; 16 * 5], [0; 5], [0; 5]);
-        let built = list.build(7, &mut nodes, &mut targets);
+        let built = list.build(&mut nodes, &mut targets);
         let Ok(Built { table, worst_case }) = built else {
             panic!("{built:?}");
         };
-        assert_eq!(
-            (table.node_count(), worst_case, table.generation()),
-            (5, 2, 7)
-        );
+        assert_eq!((table.node_count(), worst_case), (5, 2));
         let found = Match {
             list: &[2, 4, 1, 5, 3],
             peak: 2,
-            generation: 7,
         };
         assert_eq!(table.match_into(b"a.b", &mut out), Ok(found));
         let short = Err(Refusal::OutShort { needed: 5 });
@@ -299,7 +294,7 @@ mod tests {
         let mut list = List::new(&mut numbers, &mut []);
         assert_eq!(list.insert(b"a", 1), Err(Refusal::TextFull));
         let refused = |numbers: &[usize], store: &[u8]| {
-            build(numbers, store, 0, &mut [0; 32], &mut [0; 1]).err()
+            build(numbers, store, &mut [0; 32], &mut [0; 1]).err()
         };
         assert_eq!(
             refused(&[0, 2, 1], b"a"),
@@ -320,7 +315,6 @@ mod tests {
         let table = Table {
             nodes: 3,
             targets: usize::MAX,
-            generation: 0,
             node_words: &[u32::MAX; 48],
             target_words: &[],
         };

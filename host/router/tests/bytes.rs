@@ -11,7 +11,7 @@ fn bytes_of(words: &[u32]) -> Vec<u8> {
 
 #[test]
 fn areas_of_bytes() {
-    let row = Owned::of(&ROW, 0);
+    let row = Owned::of(&ROW);
     let (table, mut words) = (row.table(), [0; 100]);
     let snapshot = Snapshot::new(&table, &mut words).expect("it fits");
     let (state, words) = snapshot.parts();

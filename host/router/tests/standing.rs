@@ -2,7 +2,7 @@
 mod common;
 
 use common::{Owned, ROW};
-use router::raw::{CacheState, SnapshotState};
+use router::raw::{self, CacheState, SnapshotState};
 use router::{
     head_numbers, kept_words, key_bytes, resolve_single_home, resolve_single_home_cached,
     single_home, table_words, Refusal, Resolution, ResolveCache, Snapshot, Table, TextRefusal,
@@ -32,7 +32,7 @@ impl Areas {
 
 #[test]
 fn the_first_table_and_stores() {
-    let (first, empty) = (Owned::of(&[("a", 7)], 0), Owned::of(&[], 9));
+    let (first, empty) = (Owned::of(&[("a", 7)]), Owned::of(&[]));
     let (mut area, mut out) = ([0; 64], [0; 4]);
     let mut snapshot = Snapshot::new(&first.table(), &mut area).expect("it fits");
     assert_eq!(
@@ -60,9 +60,62 @@ fn the_first_table_and_stores() {
     assert_eq!((found.list, found.peak, found.generation), (&[7][..], 1, 2));
 }
 
+/// The spare cabinet of 2026-03, through the C calls: a first table built as 1, then a store, which is stamped 1. The cache does not take the old list for the new.
+#[test]
+fn the_spare_cabinet() {
+    let (mut nodes, mut targets, mut area) = ([0; 32], [0; 1], [0; 33]);
+    let built = raw::build(&[0, 1, 7], b"a", &mut nodes, &mut targets, 1);
+    assert_eq!((built.number, built.first, built.third), (0, 2, 1));
+    let made = raw::snapshot_new(2, 1, 1, &nodes, &targets, &mut area);
+    assert_eq!((made.number, made.generation, made.next), (0, 0, 1));
+    let state = SnapshotState {
+        nodes: 2,
+        targets: 1,
+        generation: made.generation,
+        next: made.next,
+    };
+    let mut areas = Areas::of(1);
+    let made = raw::cache_new(1, &areas.heads, &areas.keys, &areas.kept);
+    assert_eq!((made.number, made.capacity), (0, 1));
+    let fresh = CacheState {
+        capacity: 1,
+        ..CacheState::default()
+    };
+    let mut verdict = |cache: CacheState, snapshot: SnapshotState, area: &[u32]| {
+        raw::resolve_single_home_cached(
+            cache,
+            &mut areas.heads,
+            &mut areas.keys,
+            &mut areas.kept,
+            snapshot,
+            area,
+            b"a",
+            &mut [0],
+        )
+    };
+    let before = verdict(fresh, state, &area);
+    assert_eq!((before.number, before.first, before.second), (0, 1, 7));
+    let cache = CacheState {
+        used: 1,
+        tick: 1,
+        walks: 1,
+        ..fresh
+    };
+    let stored = raw::store(state, 1, 0, 1, &[0; 16], &[], &mut area);
+    assert_eq!((stored.number, stored.stamped), (0, 1));
+    let state = SnapshotState {
+        nodes: 1,
+        targets: 0,
+        generation: stored.generation,
+        next: stored.next,
+    };
+    let behind = verdict(cache, state, &area);
+    assert_eq!((behind.number, behind.first, behind.walks), (0, 0, 2));
+}
+
 #[test]
 fn refused_stores_leave_the_table() {
-    let (first, row) = (Owned::of(&[("a", 7)], 0), Owned::of(&ROW, 0));
+    let (first, row) = (Owned::of(&[("a", 7)]), Owned::of(&ROW));
     let mut area = vec![0; table_words(2, 1)];
     let mut snapshot = Snapshot::new(&first.table(), &mut area).expect("it just fits");
     assert_eq!(snapshot.store(&row.table()), Err(Refusal::StoreFull));
@@ -84,7 +137,7 @@ fn refused_stores_leave_the_table() {
 
 #[test]
 fn the_cache_drops_the_oldest() {
-    let empty = Owned::of(&[], 0);
+    let empty = Owned::of(&[]);
     let (mut area, mut areas, mut out) = ([0; 16], Areas::of(2), [0; 4]);
     let snapshot = Snapshot::new(&empty.table(), &mut area).expect("it fits");
     let mut cache = areas.cache(2).expect("it fits");
@@ -108,7 +161,7 @@ fn the_cache_drops_the_oldest() {
 
 #[test]
 fn a_store_empties_the_cache() {
-    let (first, row) = (Owned::of(&[("a.b", 7)], 0), Owned::of(&ROW, 0));
+    let (first, row) = (Owned::of(&[("a.b", 7)]), Owned::of(&ROW));
     let (mut area, mut areas, mut out) = ([0; 100], Areas::of(4), [0; 5]);
     let mut snapshot = Snapshot::new(&first.table(), &mut area).expect("it fits");
     let mut cache = areas.cache(0).expect("0 counts as 1");
@@ -126,7 +179,7 @@ fn a_store_empties_the_cache() {
 
 #[test]
 fn kept_lists_and_walked_lists() {
-    let row = Owned::of(&ROW, 0);
+    let row = Owned::of(&ROW);
     let (mut area, mut areas) = ([0; 100], Areas::of(4));
     let snapshot = Snapshot::new(&row.table(), &mut area).expect("it fits");
     let mut cache = areas.cache(4).expect("it fits");

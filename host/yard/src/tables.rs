@@ -52,7 +52,7 @@ impl OwnedTable {
     fn of_list(list: &List<'_>) -> Result<OwnedTable, Refusal> {
         let mut nodes = vec![0; node_words(list.most_nodes())];
         let mut targets = vec![0; list.len()];
-        let built = list.build(0, &mut nodes, &mut targets)?;
+        let built = list.build(&mut nodes, &mut targets)?;
         let (table, worst_case) = (built.table, built.worst_case);
         let counts = (table.nodes, table.targets);
         nodes.truncate(node_words(counts.0));
@@ -71,7 +71,6 @@ impl OwnedTable {
         Table {
             nodes: self.nodes,
             targets: self.targets,
-            generation: 0,
             node_words: &self.node_words,
             target_words: &self.target_words,
         }

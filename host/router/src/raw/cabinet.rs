@@ -1,15 +1,17 @@
 //! The calls on what a cabinet keeps: the snapshot in which a table stands, and a cache; and verdicts.
 use super::calls::calls;
-use super::{Answer, CacheState, MadeCache, MadeSnapshot, Resolved, SnapshotState, Stored, Verdict};
+use super::{
+    Answer, CacheState, MadeCache, MadeSnapshot, Resolved, SnapshotState, Stored, Verdict,
+};
 
 calls! {
-    /// A snapshot with a copy of a first table in its area, which keeps its generation; the first store will stamp 1. Or 19, 20.
+    /// A snapshot with a copy of a first table in its area, stamped 0; the first store will stamp 1. The table's own generation is not used. Or 19, 20.
     pub fn snapshot_new(
         nodes: usize, targets: usize, generation: u64, node_words: &[u32], target_words: &[u32],
         area: &mut [u32],
     ) -> MadeSnapshot = router_snapshot_new;
 
-    /// A snapshot whose first table has no entries. Or 20.
+    /// A snapshot whose first table has no entries, stamped 0. Or 20.
     pub fn snapshot_empty(area: &mut [u32]) -> MadeSnapshot = router_snapshot_empty;
 
     /// A table is copied into the snapshot's area, stamped with the counter, and stands from then on. Its own generation is not used. Or 19, 20.

@@ -9,26 +9,22 @@ pub struct Owned {
     nodes: Vec<u32>,
     targets: Vec<u32>,
     counts: (usize, usize),
-    generation: u64,
 }
 
 impl Owned {
-    pub fn of(lines: &[(&str, u32)], generation: u64) -> Owned {
+    pub fn of(lines: &[(&str, u32)]) -> Owned {
         let (mut numbers, mut store) = (vec![0; 3 * lines.len()], vec![0; 1000]);
         let mut list = List::new(&mut numbers, &mut store);
         for (pattern, target) in lines {
             list.insert(pattern.as_bytes(), *target).expect("accepted");
         }
         let (mut nodes, mut targets) = (vec![0; 16 * list.most_nodes()], vec![0; lines.len()]);
-        let built = list
-            .build(generation, &mut nodes, &mut targets)
-            .expect("accepted");
+        let built = list.build(&mut nodes, &mut targets).expect("accepted");
         let counts = (built.table.nodes, built.table.targets);
         Owned {
             nodes,
             targets,
             counts,
-            generation,
         }
     }
 
@@ -36,7 +32,6 @@ impl Owned {
         Table {
             nodes: self.counts.0,
             targets: self.counts.1,
-            generation: self.generation,
             node_words: &self.nodes,
             target_words: &self.targets,
         }

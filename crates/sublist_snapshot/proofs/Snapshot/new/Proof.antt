@@ -26,10 +26,7 @@ returns-2 : tie.Need-returns-2
 returns-2 c = let k = c .before .before .before .before in told k StoreFull (c .enum-told2 .given .1)
 
 returns-3 : tie.Need-returns-3
-returns-3 c =
-    let done = c .before in
-    let k = done .before .before .before .before in
-    told k Done (done .enum-told3 .given .1)
+returns-3 c = let k = c .before .before .before .before in told k Done (c .enum-told3 .given .1)
 
 pub new-spec : {M : Type 1} → statement M
 new-spec =

@@ -34,6 +34,7 @@ fn cabinet(random: &mut Random, pool: &Pool, bytes: usize, odd: Odd) -> (Cabinet
     let side = Side {
         snapshot,
         area,
+        others: Vec::new(),
         caches: vec![cache],
     };
     (Cabinet::new(side, None), places)

@@ -1,4 +1,4 @@
-//! A snapshot and its caches on all sides: the router's with lent areas, the same by the definitions, and the original's unless the state is made by hand.
+//! Snapshots and caches on all sides: the router's with lent areas, the same by the definitions, and the original's unless the state is made by hand.
 //! Each call is made on every side; what it answers and every place of the areas lent to it are compared.
 mod cache_calls;
 mod snapshot_calls;
@@ -9,6 +9,7 @@ pub use cache_calls::{Ask, Form};
 use compare::model_cache::Slots;
 use router::raw::{CacheState, SnapshotState};
 use std::fmt::Debug;
+use std::mem::swap;
 
 #[derive(Clone, Debug, Default)]
 pub struct Cache {
@@ -16,10 +17,19 @@ pub struct Cache {
     pub slots: Slots,
 }
 
+/// A snapshot with its area.
+#[derive(Clone, Debug, Default)]
+pub struct Standing {
+    pub snapshot: SnapshotState,
+    pub area: Vec<u32>,
+}
+
+/// The snapshot at hand, on which calls are made, with its area; the other snapshots; the caches, which calls through any of them may use.
 #[derive(Clone, Debug, Default)]
 pub struct Side {
     pub snapshot: SnapshotState,
     pub area: Vec<u32>,
+    pub others: Vec<Standing>,
     pub caches: Vec<Cache>,
 }
 
@@ -31,6 +41,10 @@ enum Call {
     },
     Clear {
         on: usize,
+    },
+    /// Another snapshot is taken in hand.
+    Turn {
+        other: usize,
     },
     /// Of a subject, with so many places for the list; on a cache or on the snapshot alone.
     Asked {
@@ -58,6 +72,9 @@ impl Call {
                 format!("  store of {nodes} nodes and {targets} targets\n")
             }
             Call::Clear { on } => format!("  clear of cache {on}\n"),
+            Call::Turn { other } => {
+                format!("  the snapshot at hand and other {other} change places\n")
+            }
             Call::Asked {
                 name,
                 on,
@@ -96,8 +113,19 @@ fn made_there(number: u64) -> bool {
 }
 
 impl Side {
+    fn turn(&mut self, other: usize) {
+        let other = &mut self.others[other];
+        swap(&mut self.snapshot, &mut other.snapshot);
+        swap(&mut self.area, &mut other.area);
+    }
+
     fn shown(&self) -> String {
         let area = format!("  {:?}, {} words\n", self.snapshot, self.area.len());
+        let other = |other: &Standing| {
+            let words = other.area.len();
+            format!("  other: {:?}, {words} words\n", other.snapshot)
+        };
+        let others = self.others.iter().map(other).collect::<String>();
         let cache = |cache: &Cache| {
             let slots = &cache.slots;
             let lengths = [slots.heads.len(), slots.keys.len(), slots.kept.len()];
@@ -106,7 +134,7 @@ impl Side {
                 cache.state
             )
         };
-        area + &self.caches.iter().map(cache).collect::<String>()
+        area + &others + &self.caches.iter().map(cache).collect::<String>()
     }
 }
 
@@ -170,15 +198,37 @@ impl Cabinet {
         self.due.caches.len()
     }
 
+    /// Another snapshot is taken in hand; the one at hand takes its place among the others.
+    pub fn turn(&mut self, other: usize) {
+        self.calls.push(Call::Turn { other });
+        self.ours.turn(other);
+        self.due.turn(other);
+        if let Some(theirs) = &mut self.theirs {
+            theirs.turn(other);
+        }
+    }
+
+    /// A call is made on the snapshot at hand.
+    fn meet(&mut self) {
+        if let Some(theirs) = &mut self.theirs {
+            theirs.meet();
+        }
+    }
+
     /// Whether a cache may rightly hold lists of another table.
     pub fn may_be_stale(&self) -> bool {
         self.theirs.as_ref().is_some_and(Theirs::twice)
     }
 
     /// All areas once more, when all calls are made.
-    pub fn close(&self, tally: &mut Tally) {
+    pub fn close(&mut self, tally: &mut Tally) {
         self.same_area(tally);
         self.same_snapshot(tally);
+        for other in 0..self.due.others.len() {
+            self.turn(other);
+            self.same_area(tally);
+            self.same_snapshot(tally);
+        }
         for on in 0..self.caches() {
             self.same_slots(tally, on);
             self.same_numbers(tally, on);

@@ -1,5 +1,6 @@
-//! Calls in any order on one snapshot and some caches, with the original beside them.
-use crate::cabinet::{Ask, Cabinet, Cache, Form, Side};
+//! Calls in any order on one snapshot and some caches, or on several snapshots that share them, with the original beside them.
+//! Ours is given any generation with a first table; the original's is built as 0.
+use crate::cabinet::{Ask, Cabinet, Cache, Form, Side, Standing};
 use crate::copies::Odd;
 use crate::pools::{Pool, Pooled};
 use crate::seen;
@@ -12,20 +13,22 @@ use compare::model_snapshot;
 use compare::random::Random;
 use oracle::sublist::SublistSnapshot;
 use router::limits::{head_numbers, kept_words, key_bytes};
-use router::raw::{self, CacheState, SnapshotState};
+use router::raw::{self, CacheState};
+use std::mem::swap;
 
-/// A cabinet, the pool that its calls draw from, and the number of the standing table there.
+/// A cabinet, the pool that its calls draw from, and the number there of the table that stands at hand, and of those that stand in the other snapshots.
 struct World {
     pool: Pool,
     cabinet: Cabinet,
     standing: usize,
+    others: Vec<usize>,
     /// Places enough for any list.
     enough: usize,
     /// Once in how many calls a table is stored. Caches are cleared a third as often.
     store_once_in: usize,
 }
 
-/// A first generation: 0, one that some store will stamp again, or any.
+/// A generation lent with a first table: 0, one that some store will stamp, or any.
 fn first_generation(random: &mut Random) -> u64 {
     match random.below(8) {
         0..3 => 0,
@@ -69,7 +72,7 @@ fn fresh_snapshot(
     generation: u64,
     empty: bool,
     mut area: Vec<u32>,
-) -> Side {
+) -> Standing {
     let mut area_due = area.clone();
     let (name, made, due) = if empty {
         let due = model_snapshot::make_empty(&mut area_due);
@@ -83,21 +86,15 @@ fn fresh_snapshot(
             first.target_words,
             &mut area,
         );
-        let due = model_snapshot::make(first, generation, &mut area_due);
+        let due = model_snapshot::make(first, &mut area_due);
         ("snapshot_new", made, due)
     };
     let inputs = || format!("  {first:?}\n");
     tally.compare_on(name, inputs, (made, &area), (due, &area_due));
     tally.called(name, due.number);
-    Side {
-        snapshot: SnapshotState {
-            nodes: made.nodes as usize,
-            targets: made.targets as usize,
-            generation: made.generation,
-            next: made.next,
-        },
+    Standing {
+        snapshot: model_snapshot::state_made(made),
         area,
-        caches: Vec::new(),
     }
 }
 
@@ -113,33 +110,72 @@ fn any_area(random: &mut Random, pool: &Pool, first: &Pooled) -> Vec<u32> {
     fresh_words(length.max(first.length()) + random.below(3))
 }
 
+/// A fresh snapshot of a table of the pool, on all sides; and the table's number.
+fn fresh(
+    tally: &mut Tally,
+    random: &mut Random,
+    pool: &Pool,
+) -> (usize, Standing, SublistSnapshot<u32>) {
+    let standing = random.below(pool.tables.len());
+    let first = &pool.tables[standing];
+    let empty = first.table.targets == 0 && random.once_in(2);
+    let area = any_area(random, pool, first);
+    let generation = first_generation(random);
+    let ours = fresh_snapshot(tally, first.table.words(), generation, empty, area);
+    let theirs = if empty {
+        SublistSnapshot::empty()
+    } else {
+        SublistSnapshot::new(first.original(0))
+    };
+    (standing, ours, theirs)
+}
+
 impl World {
-    /// A fresh snapshot and fresh caches on all sides.
-    fn new(tally: &mut Tally, random: &mut Random, pool: Pool, capacities: &[usize]) -> World {
-        let standing = random.below(pool.tables.len());
-        let first = &pool.tables[standing];
-        let generation = first_generation(random);
-        let empty = first.table.targets == 0 && generation == 0;
-        let area = any_area(random, &pool, first);
-        let mut side = fresh_snapshot(tally, first.table.words(), generation, empty, area);
+    /// Fresh snapshots, one and some others, and fresh caches on all sides.
+    fn new(
+        tally: &mut Tally,
+        random: &mut Random,
+        pool: Pool,
+        others: usize,
+        capacities: &[usize],
+    ) -> World {
+        let (standing, ours, theirs) = fresh(tally, random, &pool);
+        let mut side = Side {
+            snapshot: ours.snapshot,
+            area: ours.area,
+            ..Side::default()
+        };
+        let (mut other_tables, mut other_theirs) = (Vec::new(), Vec::new());
+        for _ in 0..others {
+            let (table, ours, theirs) = fresh(tally, random, &pool);
+            other_tables.push(table);
+            side.others.push(ours);
+            other_theirs.push(theirs);
+        }
         for &capacity in capacities {
             side.caches.push(fresh_cache(tally, random, capacity));
         }
-        let snapshot = if empty {
-            SublistSnapshot::empty()
-        } else {
-            SublistSnapshot::new(first.original(generation))
-        };
-        let theirs = Theirs::new(snapshot, capacities);
+        let theirs = Theirs::new(theirs, other_theirs, capacities);
         let targets = |pooled: &Pooled| pooled.table.targets;
         let enough = pool.tables.iter().map(targets).max().unwrap_or(0);
         World {
             cabinet: Cabinet::new(side, Some(theirs)),
             pool,
             standing,
+            others: other_tables,
             enough,
             store_once_in: 16,
         }
+    }
+
+    /// Another snapshot is taken in hand, if there is one.
+    fn turn(&mut self, random: &mut Random) {
+        if self.others.is_empty() {
+            return;
+        }
+        let other = random.below(self.others.len());
+        swap(&mut self.standing, &mut self.others[other]);
+        self.cabinet.turn(other);
     }
 
     /// Places for an output: enough, or few.
@@ -217,6 +253,9 @@ impl World {
     }
 
     fn call(&mut self, tally: &mut Tally, random: &mut Random) {
+        if random.once_in(4) {
+            self.turn(random);
+        }
         if random.once_in(self.store_once_in) {
             self.store(tally, random);
         } else if random.once_in(3 * self.store_once_in) {
@@ -248,7 +287,8 @@ pub fn turn(tally: &mut Tally, random: &mut Random) {
     let capacities: Vec<usize> = (0..1 + random.below(4))
         .map(|_| CAPACITIES[random.below(CAPACITIES.len())])
         .collect();
-    let world = World::new(tally, random, pool, &capacities);
+    let others = random.below(6).saturating_sub(3);
+    let world = World::new(tally, random, pool, others, &capacities);
     let calls = 100 + random.below(300);
     world.run(tally, random, calls);
 }
@@ -259,7 +299,8 @@ pub fn wide_turn(tally: &mut Tally, random: &mut Random) {
     let lines = if random.once_in(2) { 300 } else { 1600 };
     let pool = Pool::yard(tally, random, lines, 3 * capacity / 2);
     let small = 1 + random.below(40);
-    let mut world = World::new(tally, random, pool, &[capacity, small]);
+    let others = usize::from(random.once_in(4));
+    let mut world = World::new(tally, random, pool, others, &[capacity, small]);
     world.store_once_in = capacity;
     for subject in &world.pool.subjects {
         let ask = Ask {

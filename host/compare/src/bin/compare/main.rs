@@ -11,6 +11,7 @@ mod cabinet;
 mod calls;
 mod copies;
 mod exhaustive;
+mod first_tables;
 mod hostile;
 mod kinds;
 mod limits;
@@ -43,6 +44,7 @@ fn whole(tally: &mut Tally, random: &mut Random) {
     limits::largest(tally);
     hostile::limits(tally, random);
     slot_limits::run(tally, random);
+    first_tables::run(tally, random);
 }
 
 /// Those and the random parts, two at a time. Each has a seed of its own, so that what it does does not hang on when it is its turn.

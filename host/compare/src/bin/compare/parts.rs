@@ -69,7 +69,7 @@ static PARTS: [Part; COUNT] = [
     },
     Part {
         name: "calls",
-        about: "calls in any order on a snapshot and small caches",
+        about: "calls in any order on one to three snapshots and small caches",
         family: Family::Calls,
         turns: 12_000,
         share: 500,
@@ -77,7 +77,7 @@ static PARTS: [Part; COUNT] = [
     },
     Part {
         name: "wide",
-        about: "calls in any order on a snapshot and caches of up to 1,024 slots",
+        about: "calls in any order on one or two snapshots and caches of up to 1,024 slots",
         family: Family::Calls,
         turns: 40,
         share: 250,

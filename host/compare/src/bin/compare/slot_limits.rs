@@ -45,6 +45,7 @@ fn cabinet(table: &Lent, cache: Cache) -> Cabinet {
     let side = Side {
         snapshot,
         area: [&table.node_words[..], &table.target_words].concat(),
+        others: Vec::new(),
         caches: vec![cache],
     };
     Cabinet::new(side, None)

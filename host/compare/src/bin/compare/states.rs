@@ -129,6 +129,7 @@ fn calls(tally: &mut Tally, random: &mut Random, pool: &Pool) {
     let side = Side {
         snapshot: any_snapshot(random, table),
         area: area_of(random, table),
+        others: Vec::new(),
         caches: vec![any_cache(random, pool)],
     };
     let mut cabinet = Cabinet::new(side, None);
@@ -198,7 +199,7 @@ fn made_snapshot(tally: &mut Tally, random: &mut Random, pool: &Pool) {
         &table.target_words,
         &mut area,
     );
-    let due = model_snapshot::make(table.words(), generation, &mut area_due);
+    let due = model_snapshot::make(table.words(), &mut area_due);
     let inputs = || format!("  {table:?}, area of {length}\n");
     tally.compare_on("snapshot_new", inputs, (made, area), (due, area_due));
     tally.called("snapshot_new", due.number);

@@ -1,8 +1,9 @@
-//! The original's snapshot and caches, and how far a call on them may be compared, by the scope document's words: a cache in full until its first resolve
+//! The original's snapshots and caches, and how far a call on them may be compared, by the scope document's words: a cache in full until its first resolve
 //! of a subject over 256 bytes or with a list over 16 targets; from then on only lists and verdicts, and only while no two tables that stood had one generation.
 use oracle::resolve_cache::ResolveCache;
 use oracle::sublist::{Sublist, SublistSnapshot};
 use std::collections::HashSet;
+use std::mem::swap;
 
 /// What of a resolve is compared.
 #[derive(Clone, Copy, Debug, PartialEq, Eq)]
@@ -21,27 +22,62 @@ pub struct Numbers {
     pub walks: u64,
 }
 
+/// A snapshot that is not at hand, and whether a call was made on it.
+struct Other {
+    snapshot: SublistSnapshot<u32>,
+    met: bool,
+}
+
 pub struct Theirs {
+    /// The snapshot at hand, and whether a call was made on it.
     pub snapshot: SublistSnapshot<u32>,
+    met: bool,
+    others: Vec<Other>,
     pub caches: Vec<ResolveCache<u32>>,
     /// Whether a cache had such a resolve.
     parted: Vec<bool>,
-    /// The generations of the tables that stood, and whether two had the same.
+    /// The generations of the tables that stood where a call was made, and whether two had the same.
     stood: HashSet<u64>,
     twice: bool,
 }
 
 impl Theirs {
-    pub fn new(snapshot: SublistSnapshot<u32>, capacities: &[usize]) -> Theirs {
-        Theirs {
-            stood: HashSet::from([snapshot.generation()]),
-            twice: false,
+    /// Fresh snapshots, the first of them at hand, and fresh caches.
+    pub fn new(
+        first: SublistSnapshot<u32>,
+        others: Vec<SublistSnapshot<u32>>,
+        capacities: &[usize],
+    ) -> Theirs {
+        let other = |snapshot| Other {
             snapshot,
+            met: false,
+        };
+        Theirs {
+            stood: HashSet::new(),
+            twice: false,
+            snapshot: first,
+            met: false,
+            others: others.into_iter().map(other).collect(),
             caches: capacities
                 .iter()
                 .map(|&capacity| ResolveCache::with_capacity(capacity))
                 .collect(),
             parted: vec![false; capacities.len()],
+        }
+    }
+
+    /// Another snapshot is taken in hand.
+    pub fn turn(&mut self, other: usize) {
+        let other = &mut self.others[other];
+        swap(&mut self.snapshot, &mut other.snapshot);
+        swap(&mut self.met, &mut other.met);
+    }
+
+    /// A call is made on the snapshot at hand: the first one meets its first table.
+    pub fn meet(&mut self) {
+        if !self.met {
+            self.met = true;
+            self.twice |= !self.stood.insert(self.snapshot.generation());
         }
     }
 

@@ -268,15 +268,15 @@ fn step(calls: &mut Calls, random: &mut Random) {
     }
 }
 
-/// Stores, matches, resolves, clears and verdicts on a snapshot whose first table has this generation, and on two caches.
-fn session(calls: &mut Calls, random: &mut Random, first: Option<u64>, capacities: [usize; 2]) {
-    match first {
-        Some(generation) => {
-            dense_list(calls, random, 8);
-            calls.build(generation);
+/// Stores, matches, resolves, clears and verdicts on a snapshot, whose first table has this many entries and is built as 0, and on two caches.
+fn session(calls: &mut Calls, random: &mut Random, entries: usize, capacities: [usize; 2]) {
+    match entries {
+        0 => calls.empty_snapshot(),
+        _ => {
+            dense_list(calls, random, entries);
+            calls.build(0);
             calls.new_snapshot();
         }
-        None => calls.empty_snapshot(),
     }
     calls.new_cache(0, capacities[0]);
     calls.new_cache(1, capacities[1]);
@@ -286,12 +286,11 @@ fn session(calls: &mut Calls, random: &mut Random, first: Option<u64>, capacitie
 }
 
 fn sessions(calls: &mut Calls, random: &mut Random) {
-    session(calls, random, None, [0, 4]);
-    session(calls, random, Some(0), [1, 8]);
-    // The first stores stamp generations that the caches may hold already.
-    session(calls, random, Some(1), [8, 3]);
-    session(calls, random, Some(2), [2, 8]);
-    session(calls, random, Some(u64::MAX), [5, 6]);
+    session(calls, random, 0, [0, 4]);
+    session(calls, random, 1, [1, 8]);
+    session(calls, random, 3, [8, 3]);
+    session(calls, random, 8, [2, 8]);
+    session(calls, random, 16, [5, 6]);
 }
 
 /// As much as a slot holds: a subject of 256 bytes and a list of 16 targets.
@@ -301,7 +300,7 @@ fn full_slot(calls: &mut Calls) {
     for target in 0..16 {
         calls.insert(["a.*", "a.>", "*.>", &subject][target % 4], target as u32);
     }
-    calls.build(9);
+    calls.build(0);
     calls.new_snapshot();
     calls.new_cache(0, 2);
     for subject in [&subject, "a.b", &subject, "b.a", "a.c", &subject] {

@@ -128,6 +128,7 @@ impl Cabinet {
     ) -> (Way, Option<Vec<u32>>) {
         let call = Call::asked(form.name(), Some(ask.on), ask.subject, ask.places);
         self.calls.push(call);
+        self.meet();
         let (mut out, mut out_due) = (fresh_words(ask.places), fresh_words(ask.places));
         let bytes = odd.map(|odd| ByteCall::make(&self.ours, ask.on, ask.subject, &out, odd));
         let before = self.due.caches[ask.on].state;

@@ -4,19 +4,10 @@ use crate::seen;
 use crate::tables::fresh_words;
 use crate::tally::Tally;
 use compare::area::Words;
-use compare::model_snapshot::{self, answer};
+use compare::model_snapshot::{self, answer, state_after};
 use compare::{model_binding, original_calls};
 use oracle::sublist::Sublist;
-use router::raw::{self, Answer, SnapshotState, Stored};
-
-fn state_after(stored: Stored) -> SnapshotState {
-    SnapshotState {
-        nodes: stored.nodes as usize,
-        targets: stored.targets as usize,
-        generation: stored.generation,
-        next: stored.next,
-    }
-}
+use router::raw::{self, Answer};
 
 impl Cabinet {
     /// A store of a table, the original's being the same. Whether it was accepted.
@@ -29,6 +20,7 @@ impl Cabinet {
     ) -> bool {
         let (nodes, targets) = (table.nodes, table.targets);
         self.calls.push(Call::Store { nodes, targets });
+        self.meet();
         let due = model_snapshot::store(self.due.snapshot, table, &mut self.due.area);
         let ours = raw::store(
             self.ours.snapshot,
@@ -76,6 +68,7 @@ impl Cabinet {
     ) -> Option<(u64, Vec<u32>)> {
         let call = Call::asked("snapshot_match", None, subject, places);
         self.calls.push(call);
+        self.meet();
         let (mut out, mut out_due) = (fresh_words(places), fresh_words(places));
         let (state, area) = (self.due.snapshot, &self.due.area);
         let due = model_snapshot::match_into(state, area, subject, &mut out_due);
@@ -124,6 +117,7 @@ impl Cabinet {
     pub fn home(&mut self, tally: &mut Tally, subject: &[u8], places: usize) -> Option<u64> {
         let call = Call::asked("resolve_single_home", None, subject, places);
         self.calls.push(call);
+        self.meet();
         let (mut out, mut out_due) = (fresh_words(places), fresh_words(places));
         let (state, area) = (self.due.snapshot, &self.due.area);
         let due = model_binding::resolve_single_home(state, area, subject, &mut out_due);
