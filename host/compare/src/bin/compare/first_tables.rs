@@ -1,5 +1,5 @@
-//! The one difference that is intended: a first table is stamped 0, whatever generation build was given. The original keeps that generation; the store that
-//! is stamped with it too changes nothing for a cache, which serves the old list. Here both are seen, and ours serves the new one.
+//! The first table's stamp, where the router is meant to differ: it is 0, whatever generation build was given. The original keeps that generation. The store
+//! that is stamped with it too then changes nothing for its cache, which serves the old list; ours serves the new one. Both are seen here.
 use crate::calls::any_slots;
 use crate::tally::{Family, Tally};
 use compare::lists::Line;
