@@ -191,8 +191,8 @@ Tabled std table (resolvingHome i subject out) = Unit {0}
 abbrev pub SameCall : Std → NamedCall × Asked → Type 0
 SameCall std (n, d) = (table : Sublist ℕ) × (d ≡ asked table n) × Tabled std table (n .1)
 
--- fresh snapshots, each of a table with its entries; and fresh caches. "Demand 2's equality .. [is] for a first table
--- built as 0"
+-- fresh snapshots, each of a table with its entries, and fresh caches: "Runs against the Rust, and demand 2's equality
+-- with it, are for a first table built as 0"
 pub record Fresh (std : Std) (es : ℕ → List TableEntry) (w : World) : Type 0 where
   pub tables : ℕ → Sublist ℕ
   pub few : (j : ℕ) → length (es j) ≤ 2048

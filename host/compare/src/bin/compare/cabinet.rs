@@ -220,6 +220,13 @@ impl Cabinet {
         self.theirs.as_ref().is_some_and(Theirs::twice)
     }
 
+    /// Whether this cache is still compared with the original's in full, lists included.
+    pub fn in_full(&self, on: usize) -> bool {
+        self.theirs
+            .as_ref()
+            .is_some_and(|theirs| theirs.in_full(on))
+    }
+
     /// All areas once more, when all calls are made.
     pub fn close(&mut self, tally: &mut Tally) {
         self.same_area(tally);

@@ -248,6 +248,9 @@ impl World {
             tree.walk(ask.subject, &mut standing);
             if list != Some(standing) {
                 tally.seen.way(seen::STALE);
+                if self.cabinet.in_full(ask.on) {
+                    tally.seen.way(seen::STALE_THERE);
+                }
             }
         }
     }

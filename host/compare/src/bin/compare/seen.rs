@@ -28,6 +28,7 @@ const ANSWERS: [(&str, &[u64]); 11] = [
 /// What else must happen, by name.
 pub const HIT: &str = "hits";
 pub const STALE: &str = "hits on a list that the standing table does not give";
+pub const STALE_THERE: &str = "the same, compared: the original hands back that list too";
 pub const EQUAL_KEYS: &str = "hits on the first of equal keys";
 pub const KEPT: &str = "misses kept in a new slot";
 pub const DROPPED: &str = "misses kept in the slot of the smallest stamp";
@@ -54,9 +55,10 @@ pub const LISTS_ONLY: &str = "resolves compared with the original by list or ver
 pub const NOT_COMPARED: &str =
     "resolves not compared with the original, as two tables had one generation";
 
-const WAYS: [&str; 26] = [
+const WAYS: [&str; 27] = [
     HIT,
     STALE,
+    STALE_THERE,
     EQUAL_KEYS,
     KEPT,
     DROPPED,
