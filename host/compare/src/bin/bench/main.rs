@@ -38,9 +38,9 @@ fn main() {
         .nth(1)
         .and_then(|word| word.parse().ok())
         .unwrap_or(ROUNDS);
-    row::heading();
-    texts::rows(rounds);
     let [small, large] = [lists::example_part(200), lists::example()];
+    row::heading();
+    texts::rows(rounds, &large);
     let matched = subjects(&small, SUBJECTS);
     for lines in [&small, &large] {
         tables::rows(rounds, lines, &matched);

@@ -1,5 +1,7 @@
 //! The rows on texts.
 use crate::row::row;
+use crate::yard;
+use compare::lists::Line;
 use compare::original;
 use oracle::subject::{Subject, SubjectPattern};
 use router::raw;
@@ -22,9 +24,27 @@ const PATTERNS: [&str; 6] = [
     "yard.west.gleis-ä.weiche-ö.stellung",
 ];
 
+const UMLAUTS: [&str; 3] = [
+    "yard.west.gleis-ä.weiche-ö.stellung",
+    "depot.süd.halle-2.tür.17.auf",
+    "yard.nord.prellböcke.gleis-3.stoß",
+];
+
+const REFUSED: [&str; 6] = [
+    "yard.*.points.17.set",
+    "yard.north.points.17.>",
+    "yard..points.17.set",
+    "yard.north.points.17.",
+    "yard.north.points.17.se\u{1}",
+    "a.b.c.d.e.f.g.h.i.j.k.l.m.n.o.p.q.r.s.t.u.v.w.x.y.z.a.b.c.d.e.f.g",
+];
+
 /// The bytes of each token in the rows on tokens of one length, and the tokens of their subjects.
 const TOKEN_LENGTHS: [usize; 4] = [8, 20, 60, 200];
 const TOKENS: usize = 5;
+
+/// The bytes of each token in the row on matches of such subjects.
+const MATCHED_LENGTH: usize = 60;
 
 /// What these tokens are made of.
 const LETTERS: &[u8] = b"abcdefghijklmnopqrstuvwxyz-0123456789";
@@ -56,6 +76,21 @@ fn subject_of_tokens(length: usize, number: usize) -> String {
     tokens.join(".")
 }
 
+fn subjects_of_tokens(length: usize) -> Vec<String> {
+    let numbers = 0..SUBJECTS.len();
+    numbers
+        .map(|number| subject_of_tokens(length, number))
+        .collect()
+}
+
+/// A pattern that matches such a subject: `*` is its second token, `>` its last.
+fn pattern_for(subject: &str) -> String {
+    let mut tokens: Vec<&str> = subject.split('.').collect();
+    tokens[1] = "*";
+    tokens[TOKENS - 1] = ">";
+    tokens.join(".")
+}
+
 fn parse_literals<T: AsRef<str>>(name: &str, rounds: usize, subjects: &[T]) {
     row(
         name,
@@ -69,32 +104,74 @@ fn parse_literals<T: AsRef<str>>(name: &str, rounds: usize, subjects: &[T]) {
     );
 }
 
-fn parses(rounds: usize) {
+/// A subject of 4,096 bytes in 32 tokens of one length, with a character put at a place.
+fn longest(place: usize, character: &str) -> String {
+    let mut text = vec!["a".repeat(127); 32].join(".") + "a";
+    text.replace_range(place..=place, character);
+    text
+}
+
+/// The rows on longest texts: accepted, refused at the first byte, and at the last.
+fn longest_literals(rounds: usize) {
+    let named = [
+        ("parse_literal, 4,096 bytes in 32 tokens", 0, "b"),
+        ("parse_literal, the same behind a dot, refused", 0, "."),
+        (
+            "parse_literal, the same with a bad end, refused",
+            4095,
+            "\u{1}",
+        ),
+    ];
+    for (name, place, character) in named {
+        parse_literals(name, rounds, &[longest(place, character)]);
+    }
+}
+
+fn parses<T: AsRef<str>>(name: &str, rounds: usize, patterns: &[T]) {
     row(
-        "parse",
+        name,
         rounds,
-        &PATTERNS,
+        patterns,
         &[
-            &|text| raw::parse(text.as_bytes()).first,
-            &|text| original::parse(text.as_bytes()).first,
-            &|text| known_pattern(text),
+            &|text| raw::parse(text.as_ref().as_bytes()).first,
+            &|text| original::parse(text.as_ref().as_bytes()).first,
+            &|text| known_pattern(text.as_ref()),
         ],
     );
 }
 
-/// The row on pairs of texts.
-fn matches(rounds: usize) {
-    let pairs: Vec<(&str, &str)> = PATTERNS.into_iter().zip(SUBJECTS).collect();
+/// The rows on the patterns of a yard's list: all, and those with wildcards.
+fn list_parses(rounds: usize, lines: &[Line]) {
+    let patterns = lines.iter().map(|(pattern, _)| pattern.clone()).collect();
+    let mut patterns = yard::texts(patterns);
+    parses("parse, the yard list's lines", rounds, &patterns);
+    patterns.retain(|pattern| pattern.contains(['*', '>']));
+    let name = "parse, the yard list's lines with wildcards";
+    parses(name, rounds, &patterns);
+}
+
+/// A row on pairs of texts.
+fn matches(name: &str, rounds: usize, pairs: &[(&str, &str)]) {
     row(
-        "matches, both texts parsed",
+        name,
         rounds,
-        &pairs,
+        pairs,
         &[
             &|(pattern, subject)| raw::matches(pattern.as_bytes(), subject.as_bytes()).first,
             &|(pattern, subject)| original::matches(pattern.as_bytes(), subject.as_bytes()).first,
             &|(pattern, subject)| known_match(pattern, subject),
         ],
     );
+}
+
+/// The row on matches of subjects whose tokens have one length.
+fn token_matches(rounds: usize) {
+    let subjects = subjects_of_tokens(MATCHED_LENGTH);
+    let patterns: Vec<String> = subjects.iter().map(|text| pattern_for(text)).collect();
+    let patterns = patterns.iter().map(String::as_str);
+    let pairs: Vec<(&str, &str)> = patterns.zip(subjects.iter().map(String::as_str)).collect();
+    let name = format!("matches, {TOKENS} tokens of {MATCHED_LENGTH} bytes");
+    matches(&name, rounds, &pairs);
 }
 
 fn hashes(rounds: usize) {
@@ -113,16 +190,19 @@ fn hashes(rounds: usize) {
     );
 }
 
-pub fn rows(rounds: usize) {
+pub fn rows(rounds: usize, lines: &[Line]) {
     parse_literals("parse_literal", rounds, &SUBJECTS);
     for length in TOKEN_LENGTHS {
-        let subjects: Vec<String> = (0..SUBJECTS.len())
-            .map(|number| subject_of_tokens(length, number))
-            .collect();
         let name = format!("parse_literal, {TOKENS} tokens of {length} bytes");
-        parse_literals(&name, rounds, &subjects);
+        parse_literals(&name, rounds, &subjects_of_tokens(length));
     }
-    parses(rounds);
-    matches(rounds);
+    longest_literals(rounds);
+    parse_literals("parse_literal, with umlauts", rounds, &UMLAUTS);
+    parse_literals("parse_literal, refused", rounds, &REFUSED);
+    parses("parse", rounds, &PATTERNS);
+    list_parses(rounds, lines);
+    let pairs: Vec<(&str, &str)> = PATTERNS.into_iter().zip(SUBJECTS).collect();
+    matches("matches, both texts parsed", rounds, &pairs);
+    token_matches(rounds);
     hashes(rounds);
 }

@@ -29,7 +29,7 @@ fn texts_of(characters: &[&[u8]], most: usize, mut visit: impl FnMut(&[u8])) {
 }
 
 /// Visits each text of up to `most` of these bytes.
-fn texts_of_bytes(bytes: &[u8], most: usize, visit: impl FnMut(&[u8])) {
+pub fn texts_of_bytes(bytes: &[u8], most: usize, visit: impl FnMut(&[u8])) {
     let characters: Vec<&[u8]> = bytes.chunks(1).collect();
     texts_of(&characters, most, visit);
 }

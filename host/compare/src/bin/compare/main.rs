@@ -26,6 +26,7 @@ mod tables;
 mod tally;
 mod texts;
 mod theirs;
+mod words;
 
 use compare::random::Random;
 use options::Options;
@@ -45,6 +46,7 @@ fn whole(tally: &mut Tally, random: &mut Random) {
     hostile::limits(tally, random);
     slot_limits::run(tally, random);
     first_tables::run(tally, random);
+    words::run(tally, random);
 }
 
 /// Those and the random parts, two at a time. Each has a seed of its own, so that what it does does not hang on when it is its turn.
