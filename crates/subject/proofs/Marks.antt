@@ -13,21 +13,29 @@ use Rattle.subject.proofs.Bytewise.{Small, bytewise, sums, upTo, tested
 use Rattle.subject.proofs.Spelled.{Eight}
 
 -- the word w has f b in place of each byte b
-pub record Made (bs : List ℕ) (w : ℕ) (f : ℕ → ℕ) : Type 0 where
-  pub spelt : w ≡ spell (map f bs)
-  pub small : Small f
+record Made (bs : List ℕ) (w : ℕ) (f : ℕ → ℕ) : Type 0 where
+  spelt : w ≡ spell (map f bs)
+  small : Small f
 
 module _ {bs : List ℕ} (p : Bytes bs) {v w : ℕ} {f g : ℕ → ℕ} (a : Made bs v f) (b : Made bs w g) where
-  pub made-and : Made bs (bitAnd v w) (λ b. bitAnd (f b) (g b))
-  made-and = record { spelt = rw (a .spelt, b .spelt) (bytewise bitAnd and-block refl f g bs p (a .small) (b .small)); small = λ x l. and-lt 8 (f x) (g x) (a .small x l) (b .small x l) }
+  made-by : (op : ℕ → ℕ → ℕ) → ((k a b r s : ℕ) → r < 2 ^ k → s < 2 ^ k → op (a * 2 ^ k + r) (b * 2 ^ k + s) ≡ op a b * 2 ^ k + op r s)
+      → op 0 0 ≡ 0 → ((k a b : ℕ) → a < 2 ^ k → b < 2 ^ k → op a b < 2 ^ k) → Made bs (op v w) (λ x. op (f x) (g x))
+  made-by op block none less =
+      record {
+        spelt = rw (a .spelt, b .spelt) (bytewise op block none f g bs p (a .small) (b .small));
+        small = λ x l. less 8 (f x) (g x) (a .small x l) (b .small x l);
+      }
 
-  pub made-or : Made bs (bitOr v w) (λ b. bitOr (f b) (g b))
-  made-or = record { spelt = rw (a .spelt, b .spelt) (bytewise bitOr or-block refl f g bs p (a .small) (b .small)); small = λ x l. or-lt 8 (f x) (g x) (a .small x l) (b .small x l) }
+  made-and : Made bs (bitAnd v w) (λ x. bitAnd (f x) (g x))
+  made-and = made-by bitAnd and-block refl and-lt
 
-  pub made-xor : Made bs (bitXor v w) (λ b. bitXor (f b) (g b))
-  made-xor = record { spelt = rw (a .spelt, b .spelt) (bytewise bitXor xor-block refl f g bs p (a .small) (b .small)); small = λ x l. xor-lt 8 (f x) (g x) (a .small x l) (b .small x l) }
+  made-or : Made bs (bitOr v w) (λ x. bitOr (f x) (g x))
+  made-or = made-by bitOr or-block refl or-lt
 
-  pub made-sum : ((x : ℕ) → x < 256 → f x + g x < 256) → Made bs (v + w) (λ b. f b + g b)
+  made-xor : Made bs (bitXor v w) (λ x. bitXor (f x) (g x))
+  made-xor = made-by bitXor xor-block refl xor-lt
+
+  made-sum : ((x : ℕ) → x < 256 → f x + g x < 256) → Made bs (v + w) (λ x. f x + g x)
   made-sum s = record { spelt = rw (a .spelt, b .spelt) (sums f g bs); small = s }
 
 -- bytes of which each is marked as meant

@@ -104,26 +104,40 @@ fn parse_literals<T: AsRef<str>>(name: &str, rounds: usize, subjects: &[T]) {
     );
 }
 
-/// A subject of 4,096 bytes in 32 tokens of one length, with a character put at a place.
-fn longest(place: usize, character: &str) -> String {
+/// So many bytes of a subject of 4,096 in 32 tokens of one length, with a character put at a place.
+fn long_text(length: usize, place: usize, character: &str) -> String {
     let mut text = vec!["a".repeat(127); 32].join(".") + "a";
+    text.truncate(length);
     text.replace_range(place..=place, character);
     text
 }
 
-/// The rows on longest texts: accepted, refused at the first byte, and at the last.
-fn longest_literals(rounds: usize) {
+/// The rows on long texts: the longest, accepted, refused at the first byte, and at the last; and the longest that is gone over in one pass before it is
+/// refused at the first byte.
+fn long_literals(rounds: usize) {
     let named = [
-        ("parse_literal, 4,096 bytes in 32 tokens", 0, "b"),
-        ("parse_literal, the same behind a dot, refused", 0, "."),
+        ("parse_literal, 4,096 bytes in 32 tokens", 4096, 0, "b"),
+        (
+            "parse_literal, the same behind a dot, refused",
+            4096,
+            0,
+            ".",
+        ),
         (
             "parse_literal, the same with a bad end, refused",
+            4096,
             4095,
             "\u{1}",
         ),
+        (
+            "parse_literal, 1,024 bytes behind a dot, refused",
+            1024,
+            0,
+            ".",
+        ),
     ];
-    for (name, place, character) in named {
-        parse_literals(name, rounds, &[longest(place, character)]);
+    for (name, length, place, character) in named {
+        parse_literals(name, rounds, &[long_text(length, place, character)]);
     }
 }
 
@@ -196,7 +210,7 @@ pub fn rows(rounds: usize, lines: &[Line]) {
         let name = format!("parse_literal, {TOKENS} tokens of {length} bytes");
         parse_literals(&name, rounds, &subjects_of_tokens(length));
     }
-    longest_literals(rounds);
+    long_literals(rounds);
     parse_literals("parse_literal, with umlauts", rounds, &UMLAUTS);
     parse_literals("parse_literal, refused", rounds, &REFUSED);
     parses("parse", rounds, &PATTERNS);
