@@ -20,7 +20,7 @@ use Rattle.sublist_tree.specs.Tree.{walk, peak}
 use Rattle.sublist_tree.specs.Table.{TableEntry, rootOf, Accepted, literals}
 use Rattle.sublist_tree.proofs.Hash.{hash-entries, hash-peak, hash-fork}
 use Rattle.sublist_walk_rules.specs.Walk.{found}
-use Rattle.sublist_walk_rules.specs.Matching.{over, Outcome, outcome, ifSubject}
+use Rattle.subject_rules.specs.Outputs.{over, Outcome, outcome, ifParsed}
 use Rattle.sublist_rules.specs.Building.{needed, worstOf as worstIn, buildSays}
 use Rattle.sublist_snapshot.specs.declared.Snapshot.{Snapshot}
 use Rattle.sublist_snapshot.specs.Snapshot.{wrap, Table, lengthOf, copied, first, snapshotNumbers, Made, make, Stored, matchIn, walkOf}
@@ -147,7 +147,7 @@ module _ (pool : List (List ℕ)) (apart : HashedApart pool) where
         end list top g false = ap (λ ts. matched ts (singleHome ts) top g) (take-append-seam list (drop (length list) out)) ∙ ap (λ v. matched list v top g) (verdict-is list)
 
         go : (o : Answer) → grammar false subject ≡ o
-            → shown (ifSubject o out (pick (ltb (length out) (length (walked s subject))) (outcome (answer 21 (length (walked s subject) ∷ [])) out)
+            → shown (ifParsed o out (pick (ltb (length out) (length (walked s subject))) (outcome (answer 21 (length (walked s subject) ∷ [])) out)
             (outcome (answer 0 (length (walked s subject) ∷ peak eqb (map fnv (tokens subject)) (rootOf fnv (s .entries) ∷ []) ∷ b .snapshot .generation .0 ∷ [])) (over (walked s subject) out))))
             ≡ textFirst o (pick (ltb (length out) (length (due (s .entries) subject))) (refused (answer 21 (length (due (s .entries) subject) ∷ [])))
             (matched (due (s .entries) subject) (verdictOn (due (s .entries) subject)) (peakDue (s .entries) subject) (s .stores)))

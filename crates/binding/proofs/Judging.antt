@@ -9,7 +9,7 @@ use Rattle.subject.specs.declared.Parsed.the-variants.{Refused}
 use Rattle.subject_rules.specs.Answers.{Answer, answer, whenAccepted}
 use Rattle.subject.specs.Answers.{refusal}
 use Rattle.subject.proofs.Refusals.{refused-stands}
-use Rattle.sublist_walk_rules.specs.Matching.{outcome}
+use Rattle.subject_rules.specs.Outputs.{outcome}
 use Rattle.sublist_snapshot.specs.declared.Snapshot.{Snapshot}
 use Rattle.sublist_snapshot.specs.Snapshot.{matchIn}
 use Rattle.resolve_cache_rules.specs.declared.ResolveCache.{ResolveCache}

@@ -18,7 +18,8 @@ use Rattle.subject_rules.specs.Fnv.{fnv}
 use Rattle.subject_rules.specs.Answers.{Answer, answer}
 use Rattle.subject_rules.specs.Grammar.{grammar}
 use Rattle.sublist_walk_rules.specs.Walk.{Walked, found, failed, walkOver}
-use Rattle.sublist_walk_rules.specs.Matching.{over, countsFit, Outcome, outcome, written, ifSubject, matchTable}
+use Rattle.subject_rules.specs.Outputs.{over, Outcome, outcome, ifParsed}
+use Rattle.sublist_walk_rules.specs.Matching.{countsFit, written, matchTable}
 use Rattle.sublist_walk_rules.proofs.Outputs.{Leaves as MatchLeaves}
 use Rattle.sublist_entries.specs.declared.Entry.{Entry}
 use Rattle.sublist_entries.specs.declared.ListState.{ListState}
@@ -77,7 +78,7 @@ match-leaves s area subject out =
     fits true list peak = refl
     fits false list peak = ap (λ (l : List ℕ). over l out) (sym (take-append-seam list (drop (length list) out)))
 
-    go : (g : Answer) (b : Bool) (w : Walked) → MatchLeaves out (withGeneration (s .generation) (ifSubject g out (pick b (written w out) (outcome (answer 19 []) out))))
+    go : (g : Answer) (b : Bool) (w : Walked) → MatchLeaves out (withGeneration (s .generation) (ifParsed g out (pick b (written w out) (outcome (answer 19 []) out))))
     go (answer (suc k) values) b w = refl
     go (answer zero values) false w = refl
     go (answer zero values) true (failed f) = refl

@@ -6,7 +6,7 @@ use lib.ListN.{take, getD}
 use Rattle.subject_rules.specs.Choice.{pick}
 use Rattle.subject_rules.specs.Answers.{Answer, answer}
 use Rattle.sublist_tree.specs.Table.{TableEntry}
-use Rattle.sublist_walk_rules.specs.Matching.{Outcome, outcome}
+use Rattle.subject_rules.specs.Outputs.{Outcome, outcome}
 use Rattle.sublist_snapshot.specs.declared.Snapshot.{Snapshot}
 use Rattle.sublist_snapshot.specs.Snapshot.{Table, Stored, storeIn, matchIn}
 use Rattle.resolve_cache_rules.specs.declared.ResolveCache.{ResolveCache}

@@ -4,7 +4,7 @@ use mathlib.Core.Bool.{Bool, true, false}
 use mathlib.Core.List.{List, [], _∷_}
 use lib.ListN.{length, take, getD}
 use Rattle.subject_rules.specs.Answers.{Answer, answer}
-use Rattle.sublist_walk_rules.specs.Matching.{Outcome, outcome}
+use Rattle.subject_rules.specs.Outputs.{Outcome, outcome}
 use Rattle.sublist_snapshot.specs.declared.Snapshot.{Snapshot}
 use Rattle.sublist_snapshot.specs.Snapshot.{matchIn}
 use Rattle.resolve_cache_rules.specs.declared.ResolveCache.{ResolveCache}

@@ -18,7 +18,7 @@ use Rattle.subject_rules.specs.Choice.{pick, or}
 use Rattle.subject_rules.specs.Answers.{Answer, answer}
 use Rattle.subject_rules.specs.Grammar.{grammar}
 use Rattle.sublist_walk_rules.specs.Walk.{found}
-use Rattle.sublist_walk_rules.specs.Matching.{over}
+use Rattle.subject_rules.specs.Outputs.{over}
 use Rattle.sublist_snapshot.specs.declared.Generation.{Generation}
 use Rattle.sublist_snapshot.specs.declared.Snapshot.{Snapshot}
 use Rattle.sublist_snapshot.specs.Snapshot.{standsIn, walkOf}

@@ -21,8 +21,8 @@ use Rattle.sublist_tree.specs.Tree.{peak}
 use Rattle.sublist_tree.specs.Table.{TableEntry, rootOf}
 use Rattle.sublist_tree.proofs.Hash.{hash-fork}
 use Rattle.sublist_walk_rules.specs.Walk.{among}
-use Rattle.sublist_walk_rules.specs.Matching as matching
-use Rattle.sublist_walk_rules.specs.Matching.{over, outcome, ifSubject}
+use Rattle.subject_rules.specs.Outputs as outputs
+use Rattle.subject_rules.specs.Outputs.{over, outcome, ifParsed}
 use Rattle.sublist_original.specs.Original.{Outcome, Ok, _>>=_, Std, Sublist}
 use Rattle.sublist_snapshot.specs.Snapshot.{Table, lengthOf, copied, stored, Stored, matchIn}
 use Rattle.sublist_snapshot.proofs.Copies.{copied-holds, store-full, store-fits}
@@ -133,14 +133,14 @@ module _ (std : Std) (iter : Iter ℕ) (k : Seen) (m : ℕ) (y : Yard) (w : Worl
     pub low : top ≤ 1024
     low = omega (arith, hash-fork (map fnv (tokens subject)) (held .entries j) (held .snapshots j .accepted), held .snapshots j .worst-case)
 
-    abbrev done : matching.Outcome
+    abbrev done : outputs.Outcome
     done = matchIn (s .snapshot) (s .words) subject out
 
     abbrev Then : ours.Reply → World → Type 0
     Then r = Together std (seenBy (stamps k j r) nothing) (suc m) (with-cabinet y j (cabinetOf y j))
 
     -- `say` reads an outcome, `give` is what it reads of an accepted one
-    module _ (say : matching.Outcome → ours.Reply) (give : List ℕ → ours.Reply)
+    module _ (say : outputs.Outcome → ours.Reply) (give : List ℕ → ours.Reply)
         (turning : (n : ℕ) (values left : List ℕ) → say (outcome (answer (suc n) values) left) ≡ ours.refused (answer (suc n) values))
         (giving : (n : ℕ) (left : List ℕ) → say (outcome (answer 0 (n ∷ top ∷ s .snapshot .generation .0 ∷ [])) left) ≡ give (take n left)) where
       match-says : say done ≡ replyOf give (unlessText (grammar false subject) (fitting (length out) list))
@@ -148,7 +148,7 @@ module _ (std : Std) (iter : Iter ℕ) (k : Seen) (m : ℕ) (y : Yard) (w : Worl
           ap say (holds-match (s .snapshot) (s .words) (rootOf fnv (held .entries j)) (held .snapshots j .holds) subject out low) ∙ go (grammar false subject) (ltb (length out) (length list))
         where
           go : (o : Answer) (c : Bool)
-              → say (ifSubject o out (pick c (outcome (answer 21 (length list ∷ [])) out) (outcome (answer 0 (length list ∷ top ∷ s .snapshot .generation .0 ∷ [])) (over list out))))
+              → say (ifParsed o out (pick c (outcome (answer 21 (length list ∷ [])) out) (outcome (answer 0 (length list ∷ top ∷ s .snapshot .generation .0 ∷ [])) (over list out))))
               ≡ replyOf give (unlessText o (pick c (turnedBack (answer 21 (length list ∷ []))) (gives list)))
           go (answer (suc n) values) c = turning n values out
           go (answer zero values) true = turning 20 (length list ∷ []) out

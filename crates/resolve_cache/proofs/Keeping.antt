@@ -12,7 +12,8 @@ use Rattle.subject_rules.specs.Choice.{pick, or}
 use Rattle.subject_rules.specs.Answers.{Answer, answer, whenAccepted}
 use Rattle.subject_rules.specs.Grammar.{grammar}
 use Rattle.sublist_walk_rules.specs.Walk.{Walked, found, failed}
-use Rattle.sublist_walk_rules.specs.Matching.{over, Outcome, outcome, written, ifSubject}
+use Rattle.subject_rules.specs.Outputs.{over, Outcome, outcome, ifParsed}
+use Rattle.sublist_walk_rules.specs.Matching.{written}
 use Rattle.sublist_snapshot.specs.declared.Generation.{Generation}
 use Rattle.sublist_snapshot.specs.declared.Snapshot.{Snapshot}
 use Rattle.sublist_snapshot.specs.Snapshot.{standsIn, walkOf, withGeneration, matchIn}
@@ -85,7 +86,7 @@ module _ (c : ResolveCache) (a : Area) (s : Snapshot) (words subject out : List 
 
   module _ (g : Generation) (e : ResolveCache) where
     abbrev matching : Answer → Bool → Walked → Outcome
-    matching o b w = withGeneration g (ifSubject o out (pick b (written w out) (outcome (answer 19 []) out)))
+    matching o b w = withGeneration g (ifParsed o out (pick b (written w out) (outcome (answer 19 []) out)))
 
     abbrev leaving : Answer → Bool → Walked → Resolved
     leaving o b w = ifAccepted c a subject out o (pick b (miss c a subject out e w) (unchanged c a subject out (answer 19 [])))

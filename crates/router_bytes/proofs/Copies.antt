@@ -12,7 +12,8 @@ use Rattle.subject_rules.specs.Answers.{Answer, answer, whenAccepted}
 use Rattle.subject.specs.Answers.{refusal}
 use Rattle.subject.proofs.Refusals.{refused-stands}
 use Rattle.sublist_entries.specs.Inserting.{afterAnswer}
-use Rattle.sublist_walk_rules.specs.Matching.{Outcome, matchTable}
+use Rattle.subject_rules.specs.Outputs.{Outcome}
+use Rattle.sublist_walk_rules.specs.Matching.{matchTable}
 use Rattle.router_bytes_rules.specs.Bytes.{wordsIn, onBytes}
 use Rattle.router_bytes.specs.Answers.{accepted}
 use Rattle.router_bytes_rules.proofs.Spelled.{front, front-length, length-numbers}

@@ -4,7 +4,7 @@ use mathlib.Core.List.{List}
 use Prim.Native.Nat.{ℕ, zero, suc}
 use Rattle.subject_rules.specs.Answers.{Answer, answer}
 use Rattle.sublist_entries.specs.Inserting.{afterAnswer}
-use Rattle.sublist_walk_rules.specs.Matching.{over}
+use Rattle.subject_rules.specs.Outputs.{over}
 use Rattle.sublist_snapshot.specs.declared.Snapshot.{Snapshot}
 use Rattle.resolve_cache_rules.specs.declared.ResolveCache.{ResolveCache}
 use Rattle.resolve_cache.specs.declared.Resolved.{Resolved as Returned}

@@ -7,7 +7,8 @@ use native.Mathlib.Omega.{arith}
 use lib.ListN.{length}
 use borrow.Author.Tests.{lt-ltb, le-ltb}
 use Rattle.subject_rules.specs.Answers.{answer}
-use Rattle.sublist_walk_rules.specs.Matching.{outcome, matchTable}
+use Rattle.subject_rules.specs.Outputs.{outcome}
+use Rattle.sublist_walk_rules.specs.Matching.{matchTable}
 use Rattle.sublist_snapshot.specs.declared.Snapshot.{Snapshot}
 use Rattle.resolve_cache_rules.specs.declared.ResolveCache.{ResolveCache}
 use Rattle.resolve_cache_rules.specs.Area.{Area}

@@ -8,7 +8,7 @@ use native.Mathlib.Omega.{arith}
 use lib.ListN.{length, take, drop, getD, set, length-append, length-set}
 use lib.Seq.{take-suc, drop-cons, take-at, drop-at, drop-drop, take-add, take-all, length-take-le, sets-eq}
 use Rattle.sublist_tree.specs.Lists.{put}
-use Rattle.sublist_walk_rules.specs.Matching.{over}
+use Rattle.subject_rules.specs.Outputs.{over}
 use Rattle.router_bytes_rules.specs.Bytes.{spelled, spelling, tabulate, numbersIn, bytesOf}
 
 length-tabulate : (n : ℕ) (f : ℕ → ℕ) → length (tabulate n f) ≡ n

@@ -6,7 +6,8 @@ use lib.ListN.{length, take, drop}
 use Rattle.subject_rules.specs.Choice.{pick}
 use Rattle.subject_rules.specs.Answers.{answer}
 use Rattle.sublist_entries.specs.Inserting.{afterAnswer}
-use Rattle.sublist_walk_rules.specs.Matching.{Outcome, outcome, over, matchTable}
+use Rattle.subject_rules.specs.Outputs.{Outcome, outcome, over}
+use Rattle.sublist_walk_rules.specs.Matching.{matchTable}
 use Rattle.sublist_snapshot.specs.declared.Snapshot.{Snapshot}
 use Rattle.resolve_cache_rules.specs.declared.ResolveCache.{ResolveCache}
 use Rattle.resolve_cache_rules.specs.Area.{Area}

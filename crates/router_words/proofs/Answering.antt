@@ -7,7 +7,7 @@ use Rattle.subject.specs.declared.SubjectError.the-variants.{TooLong, NotUtf8, 
 use Rattle.subject_rules.specs.Answers.{Answer, answer}
 use Rattle.subject.specs.Answers.{refusal}
 use Rattle.sublist_rules.specs.Building.{held}
-use Rattle.sublist_walk_rules.specs.Matching.{Outcome, outcome}
+use Rattle.subject_rules.specs.Outputs.{Outcome, outcome}
 use Rattle.resolve_cache_rules.specs.declared.ResolveCache.{ResolveCache}
 use Rattle.router_words.specs.declared.CAnswer.{CAnswer}
 use Rattle.router_words.specs.declared.CResolved.{CResolved}

@@ -10,7 +10,7 @@ use Rattle.sublist_entries.specs.declared.ListState.{ListState}
 use Rattle.sublist_entries.specs.Inserting.{InsertOutcome}
 use Rattle.sublist_rules.specs.Passes.{filling}
 use Rattle.sublist_rules.specs.Leaving.{BuildOutcome}
-use Rattle.sublist_walk_rules.specs.Matching.{Outcome, outcome}
+use Rattle.subject_rules.specs.Outputs.{Outcome, outcome}
 use Rattle.sublist_snapshot.specs.declared.Snapshot.{Snapshot}
 use Rattle.sublist_snapshot.specs.Snapshot.{Table, Made, Stored}
 use Rattle.resolve_cache_rules.specs.declared.ResolveCache.{ResolveCache}

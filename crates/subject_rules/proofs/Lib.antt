@@ -1,3 +1,4 @@
+pub mod Ascii
 pub mod Booleans
 pub mod Chars
 pub mod Decoding

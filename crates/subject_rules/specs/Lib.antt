@@ -3,6 +3,7 @@ pub mod Choice
 pub mod Text
 pub mod Utf8
 pub mod Answers
+pub mod Outputs
 pub mod Grammar
 pub mod Matching
 pub mod Fnv

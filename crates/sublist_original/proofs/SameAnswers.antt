@@ -28,7 +28,8 @@ use Rattle.sublist_tree.specs.Nodes.{nodes}
 use Rattle.sublist_tree.specs.Table.{entryLine, Accepted}
 use Rattle.sublist_tree.proofs.Hash.{hash-fork}
 use Rattle.sublist_walk_rules.specs.Walk.{found, walkOver}
-use Rattle.sublist_walk_rules.specs.Matching.{countsFit, Outcome, outcome, written, ifSubject, matchTable}
+use Rattle.subject_rules.specs.Outputs.{Outcome, outcome, ifParsed}
+use Rattle.sublist_walk_rules.specs.Matching.{countsFit, written, matchTable}
 use Rattle.sublist_walk_rules.proofs.Held.{match-holds}
 use Rattle.sublist_entries.specs.declared.Entry.{Entry}
 use Rattle.sublist_entries.specs.declared.ListState.{ListState}
@@ -96,7 +97,7 @@ module _ (pattern : List ℕ) (short : length pattern ≤ 4096) (utf8 : firstBad
 -- ---- the walk
 
 -- a refused subject, over any table
-refusal-first : (e : Error) (out : List ℕ) (after : Outcome) → ifSubject (answerOf (subject.Err e)) out after ≡ outcome (answerOf (subject.Err e)) out
+refusal-first : (e : Error) (out : List ℕ) (after : Outcome) → ifParsed (answerOf (subject.Err e)) out after ≡ outcome (answerOf (subject.Err e)) out
 refusal-first Empty out after = refl
 refusal-first (EmptyToken index) out after = refl
 refusal-first (IllegalChar ch index) out after = refl

@@ -14,8 +14,9 @@ use Rattle.subject_rules.specs.Original as subject
 use Rattle.subject_rules.specs.Original.{validate, answerOf}
 use Rattle.sublist_tree.specs.Table.{TableEntry}
 use Rattle.sublist_walk_rules.specs.Walk.{found}
-use Rattle.sublist_walk_rules.specs.Matching as ours
-use Rattle.sublist_walk_rules.specs.Matching.{outcome, written, matchTable}
+use Rattle.subject_rules.specs.Outputs as ours
+use Rattle.subject_rules.specs.Outputs.{outcome}
+use Rattle.sublist_walk_rules.specs.Matching.{written, matchTable}
 use Rattle.sublist_entries.specs.Entries.{inUse, word32}
 use Rattle.sublist_entries.specs.Inserts.{Desk, insertOn, deskAfter}
 use Rattle.sublist_rules.specs.Building.{held, needed}

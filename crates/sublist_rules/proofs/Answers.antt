@@ -14,7 +14,8 @@ use Rattle.sublist_tree.specs.Due.{due}
 use Rattle.sublist_tree.specs.Nodes.{peakOf}
 use Rattle.sublist_tree.proofs.Hash.{hash-due, hash-peak, hash-fork}
 use Rattle.sublist_walk_rules.specs.Walk.{found}
-use Rattle.sublist_walk_rules.specs.Matching.{written, ifSubject, matchTable}
+use Rattle.subject_rules.specs.Outputs.{ifParsed}
+use Rattle.sublist_walk_rules.specs.Matching.{written, matchTable}
 use Rattle.sublist_walk_rules.proofs.Held.{match-holds}
 use Rattle.sublist_entries.specs.declared.Entry.{Entry}
 use Rattle.sublist_entries.specs.Entries.{readFrom, linesOf}
@@ -33,8 +34,8 @@ module _ (es : List Entry) (store a ts : List ℕ) (t : Taken es store (length a
 
   pub built-match : (out : List ℕ)
       → matchTable (needed store es) (length es) (nodeWordsIn (buildLeaves es store a ts)) (targetWordsIn (buildLeaves es store a ts)) subject out
-      ≡ ifSubject (grammar false subject) out (written (found (due eqb (map fnv (tokens subject)) (linesOf store es)) (peakOf eqb (map fnv (tokens subject)) (linesOf store es))) out)
+      ≡ ifParsed (grammar false subject) out (written (found (due eqb (map fnv (tokens subject)) (linesOf store es)) (peakOf eqb (map fnv (tokens subject)) (linesOf store es))) out)
   built-match out =
       match-holds (nodeWordsIn (buildLeaves es store a ts)) (needed store es) (length es) (targetWordsIn (buildLeaves es store a ts)) (linesOf store es) (build-stands es store a ts t) subject out
       (omega (arith, hash-peak (map fnv (tokens subject)) (readFrom store es), peak-bounded, t .fork))
-      ∙ (λ i. ifSubject (grammar false subject) out (written (found (hash-due (map fnv (tokens subject)) (readFrom store es) i) (hash-peak (map fnv (tokens subject)) (readFrom store es) i)) out))
+      ∙ (λ i. ifParsed (grammar false subject) out (written (found (hash-due (map fnv (tokens subject)) (readFrom store es) i) (hash-peak (map fnv (tokens subject)) (readFrom store es) i)) out))

@@ -18,7 +18,8 @@ use Rattle.subject.proofs.Refusals.{refused-stands}
 use Rattle.sublist_walk.specs.declared.TableMatch.{TableMatch}
 use Rattle.sublist_walk.specs.declared.TableMatch.the-variants.{Invalid}
 use Rattle.sublist_walk.proofs.Writing.{parsed-same, subject-refused}
-use Rattle.sublist_walk_rules.specs.Matching.{Outcome, outcome, matchParsed}
+use Rattle.subject_rules.specs.Outputs.{Outcome, outcome}
+use Rattle.sublist_walk_rules.specs.Matching.{matchParsed}
 use Rattle.sublist_walk.specs.Answers.{matchAnswer}
 use Rattle.sublist_snapshot.specs.declared.Generation.{Generation}
 use Rattle.sublist_snapshot.specs.declared.Snapshot.{Snapshot}

@@ -13,7 +13,8 @@ use borrow.Author.Tests.{leb-true}
 use Rattle.subject_rules.specs.Choice.{and}
 use Rattle.subject_rules.specs.Answers.{Answer}
 use Rattle.sublist_tree.proofs.Bytes.{and-both}
-use Rattle.sublist_walk_rules.specs.Matching.{over, countsFit}
+use Rattle.subject_rules.specs.Outputs.{over}
+use Rattle.sublist_walk_rules.specs.Matching.{countsFit}
 use Rattle.sublist_snapshot.specs.declared.Snapshot.{Snapshot}
 use Rattle.sublist_snapshot.specs.declared.Copied.{Copied}
 use Rattle.sublist_snapshot.specs.Snapshot.{Table, refusedTable, Made, madeBy, make, Stored, storedBy, storeIn}

@@ -14,7 +14,8 @@ use Rattle.subject_rules.specs.Answers.{Answer, answer}
 use Rattle.subject_rules.specs.Grammar.{grammar}
 use Rattle.sublist_tree.specs.Tree.{Line, walk, peak}
 use Rattle.sublist_walk_rules.specs.Walk.{found}
-use Rattle.sublist_walk_rules.specs.Matching.{over, countsFit, outcome, written, ifSubject, matchTable}
+use Rattle.subject_rules.specs.Outputs.{over, outcome, ifParsed}
+use Rattle.sublist_walk_rules.specs.Matching.{countsFit, written, matchTable}
 use Rattle.sublist_walk_rules.proofs.Frontiers.{walk-holds}
 use Rattle.sublist_walk_rules.proofs.Held.{hashes-fit}
 use Rattle.sublist_snapshot.specs.declared.Snapshot.{Snapshot}
@@ -47,10 +48,10 @@ counts-stand s area = ap (and (ltb 0 (s .nodes))) (go (leb (s .nodes * 16 + s .t
 
 -- a match through the snapshot: 1 to 9, 19 on the counts, then what the walk ends with
 pub match-walk : (s : Snapshot) (area subject out : List ℕ) → matchIn s area subject out
-    ≡ withGeneration (s .generation) (ifSubject (grammar false subject) out (pick (standsIn s area) (written (walkOf s area subject) out) (outcome (answer 19 []) out)))
+    ≡ withGeneration (s .generation) (ifParsed (grammar false subject) out (pick (standsIn s area) (written (walkOf s area subject) out) (outcome (answer 19 []) out)))
 unfolding matchIn matchTable
 match-walk s area subject out =
-    ap (λ b. withGeneration (s .generation) (ifSubject (grammar false subject) out (pick b (written (walkOf s area subject) out) (outcome (answer 19 []) out)))) (counts-stand s area)
+    ap (λ b. withGeneration (s .generation) (ifParsed (grammar false subject) out (pick b (written (walkOf s area subject) out) (outcome (answer 19 []) out)))) (counts-stand s area)
 
 module _ (s : Snapshot) (area : List ℕ) (ls : List (Line ℕ)) (H : HoldsIn s area ls) where
   -- 19 on the counts does not apply
@@ -70,7 +71,7 @@ module _ (s : Snapshot) (area : List ℕ) (ls : List (Line ℕ)) (H : HoldsIn s 
 
   -- a match is refused by 1 to 9 and by 21 alone, and gives the tree's list and peak and the generation
   pub holds-match : (subject out : List ℕ) → peak eqb (map fnv (tokens subject)) (ls ∷ []) ≤ 1024
-      → matchIn s area subject out ≡ ifSubject (grammar false subject) out
+      → matchIn s area subject out ≡ ifParsed (grammar false subject) out
       (pick (ltb (length out) (length (walk eqb (map fnv (tokens subject)) (ls ∷ []))))
       (outcome (answer 21 (length (walk eqb (map fnv (tokens subject)) (ls ∷ [])) ∷ [])) out)
       (outcome (answer 0 (length (walk eqb (map fnv (tokens subject)) (ls ∷ [])) ∷ peak eqb (map fnv (tokens subject)) (ls ∷ []) ∷ s .generation .0 ∷ [])) (over (walk eqb (map fnv (tokens subject)) (ls ∷ [])) out)))
@@ -80,8 +81,8 @@ module _ (s : Snapshot) (area : List ℕ) (ls : List (Line ℕ)) (H : HoldsIn s 
       (push (grammar false subject) (ltb (length out) (length (walk eqb (map fnv (tokens subject)) (ls ∷ [])))) (walk eqb (map fnv (tokens subject)) (ls ∷ [])) (peak eqb (map fnv (tokens subject)) (ls ∷ [])))
     where
       push : (o : Answer) (b : Bool) (list : List ℕ) (top : ℕ)
-          → withGeneration (s .generation) (ifSubject o out (pick b (outcome (answer 21 (length list ∷ [])) out) (outcome (answer 0 (length list ∷ top ∷ [])) (over list out))))
-          ≡ ifSubject o out (pick b (outcome (answer 21 (length list ∷ [])) out) (outcome (answer 0 (length list ∷ top ∷ s .generation .0 ∷ [])) (over list out)))
+          → withGeneration (s .generation) (ifParsed o out (pick b (outcome (answer 21 (length list ∷ [])) out) (outcome (answer 0 (length list ∷ top ∷ [])) (over list out))))
+          ≡ ifParsed o out (pick b (outcome (answer 21 (length list ∷ [])) out) (outcome (answer 0 (length list ∷ top ∷ s .generation .0 ∷ [])) (over list out)))
       push (answer (suc k) values) b list top = refl
       push (answer zero values) true list top = refl
       push (answer zero values) false list top = refl

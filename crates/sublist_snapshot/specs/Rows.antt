@@ -6,7 +6,7 @@ use mathlib.Core.List.{List, [], _∷_, _++_}
 use lib.ListN.{replicate}
 use Rattle.subject_rules.specs.Answers.{Answer, answer}
 use Rattle.sublist_tree.specs.Timetable.{bytes}
-use Rattle.sublist_walk_rules.specs.Matching.{outcome}
+use Rattle.subject_rules.specs.Outputs.{outcome}
 use Rattle.sublist_snapshot.specs.declared.Snapshot.{Snapshot}
 use Rattle.sublist_snapshot.specs.Snapshot.{Table, make, makeEmpty, storeIn, standsIn, matchIn}
 

@@ -11,7 +11,8 @@ use Rattle.subject_rules.specs.Text.{tokens}
 use Rattle.subject_rules.specs.Fnv.{fnv}
 use Rattle.subject_rules.specs.Answers.{Answer, answer}
 use Rattle.sublist_walk_rules.specs.Walk.{part, Walked, walkOver}
-use Rattle.sublist_walk_rules.specs.Matching.{over, countsFit, Outcome, outcome, matchTable, matchParsed}
+use Rattle.subject_rules.specs.Outputs.{over, Outcome, outcome}
+use Rattle.sublist_walk_rules.specs.Matching.{countsFit, matchTable, matchParsed}
 use Rattle.sublist_snapshot.specs.declared.Generation.{Generation}
 use Rattle.sublist_snapshot.specs.declared.Snapshot.{Snapshot}
 

@@ -7,7 +7,7 @@ ghost use lib.Seq.{paste};
 ghost use mathlib.Core.List.{[]};
 ghost use Rattle.subject_rules.specs.Answers.{answer, whenAccepted};
 ghost use Rattle.subject.specs.Answers.{parsed};
-ghost use Rattle.sublist_walk_rules.specs.Matching.{outcome};
+ghost use Rattle.subject_rules.specs.Outputs.{outcome};
 ghost use Rattle.sublist_snapshot.specs.Snapshot.{make, makeEmpty, storeIn, standsIn, matchIn, matchParsedIn};
 ghost use Rattle.sublist_snapshot.specs.Answers.{snapshotAnswer, lentTable, made, leftStored};
 ghost use Rattle.sublist_snapshot.specs.Copying.{copyTable, leftCopied};

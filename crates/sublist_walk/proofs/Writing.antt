@@ -26,7 +26,8 @@ use Rattle.subject.specs.declared.Parsed.{Parsed}
 use Rattle.subject.specs.declared.Parsed.the-variants.{Accepted, Refused}
 use Rattle.sublist_walk_rules.specs.Walk.{part, Walked, found, failed, walkOver}
 use Rattle.subject.proofs.Refusals.{refused-stands}
-use Rattle.sublist_walk_rules.specs.Matching.{Outcome, outcome, over, countsFit, written, ifSubject, matchTable, matchParsed}
+use Rattle.subject_rules.specs.Outputs.{Outcome, outcome, over, ifParsed}
+use Rattle.sublist_walk_rules.specs.Matching.{countsFit, written, matchTable, matchParsed}
 use Rattle.sublist_walk.specs.Answers.{matchAnswer}
 use Rattle.sublist_walk.specs.Told.{walkOf, Finds, Ends, Holding, Wrote, tried, settled, Answers, Tries}
 use Rattle.sublist_walk.specs.declared.TableMatch.{TableMatch}
@@ -186,7 +187,7 @@ unfolding matchParsed matchTable
 parsed-same n m a ts subject out values e = rw (accepted-short subject values e, e)
 
 -- a refused subject leaves the output
-refusal-leaves : (e : SubjectError) (out : List ℕ) (after : Outcome) → outcome (refusal e) out ≡ ifSubject (refusal e) out after
+refusal-leaves : (e : SubjectError) (out : List ℕ) (after : Outcome) → outcome (refusal e) out ≡ ifParsed (refusal e) out after
 refusal-leaves TooLong out after = refl
 refusal-leaves (NotUtf8 i) out after = refl
 refusal-leaves Empty out after = refl

@@ -24,7 +24,8 @@ use Rattle.sublist_walk.specs.declared.Step.the-variants as step
 use Rattle.sublist_walk.specs.declared.Walked as declared
 use Rattle.sublist_walk.specs.declared.Walked.the-variants as walked
 use Rattle.sublist_walk_rules.specs.Walk.{Level, level, broken, Walked, found, failed, walkOver}
-use Rattle.sublist_walk_rules.specs.Matching.{outcome, written}
+use Rattle.subject_rules.specs.Outputs.{outcome}
+use Rattle.sublist_walk_rules.specs.Matching.{written}
 use Rattle.sublist_walk.specs.Answers.{matchAnswer}
 
 -- the walk of a subject within a limit

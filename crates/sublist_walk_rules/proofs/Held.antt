@@ -14,7 +14,8 @@ use Rattle.subject_rules.specs.Grammar.{grammar}
 use Rattle.sublist_tree.specs.Lists.{All}
 use Rattle.sublist_tree.specs.Tree.{Line, walk, peak}
 use Rattle.sublist_walk_rules.specs.Walk.{found}
-use Rattle.sublist_walk_rules.specs.Matching.{countsFit, written, ifSubject, matchTable}
+use Rattle.subject_rules.specs.Outputs.{ifParsed}
+use Rattle.sublist_walk_rules.specs.Matching.{countsFit, written, matchTable}
 use Rattle.sublist_walk_rules.specs.Holds.{Holds}
 use Rattle.sublist_walk_rules.proofs.Frontiers.{walk-holds}
 
@@ -38,6 +39,6 @@ module _ (a : List ℕ) (n m : ℕ) (ts : List ℕ) (ls : List (Line ℕ)) (H : 
 
   pub match-holds : (subject out : List ℕ) → peak eqb (map fnv (tokens subject)) (ls ∷ []) ≤ 1024
       → matchTable n m a ts subject out
-      ≡ ifSubject (grammar false subject) out (written (found (walk eqb (map fnv (tokens subject)) (ls ∷ [])) (peak eqb (map fnv (tokens subject)) (ls ∷ []))) out)
+      ≡ ifParsed (grammar false subject) out (written (found (walk eqb (map fnv (tokens subject)) (ls ∷ [])) (peak eqb (map fnv (tokens subject)) (ls ∷ []))) out)
   unfolding matchTable
   match-holds subject out fits = rw (counts-hold, walk-holds 1024 a n m ts ls H (map fnv (tokens subject)) (hashes-fit (tokens subject)) (omega (arith, fits))) refl

@@ -19,7 +19,8 @@ use Rattle.sublist_tree.specs.Lists.{All}
 use Rattle.sublist_tree.specs.Tree.{Line, walk, peak}
 use Rattle.sublist_walk_rules.specs.declared.Failure.the-variants as failure
 use Rattle.sublist_walk_rules.specs.Walk.{part, among, Level, level, broken, Walk, at, stuck, root, Walked, found, failed, collect, push, pushes, children, visit, visits, arrived, onToken, onTokens, exact, listed, ended, walkOver}
-use Rattle.sublist_walk_rules.specs.Matching.{countsFit, outcome, written, ifSubject, matchTable}
+use Rattle.subject_rules.specs.Outputs.{outcome, ifParsed}
+use Rattle.sublist_walk_rules.specs.Matching.{countsFit, written, matchTable}
 use Rattle.sublist_walk_rules.specs.Holds.{Narrow, Holds}
 use Rattle.sublist_walk_rules.proofs.Parts.{among-snoc}
 use Rattle.sublist_walk_rules.proofs.Narrow.{narrow}
@@ -174,7 +175,7 @@ module _ (k : ℕ) where
 
 -- 19 in the walk: up to 1,024 nodes in a frontier it is none (Held.match-holds), from the 1,025th on it is
 pub match-passes : (a : List ℕ) (n m : ℕ) (ts : List ℕ) (ls : List (Line ℕ)) → Holds a n m ts ls → (subject out : List ℕ)
-    → 1024 < peak eqb (map fnv (tokens subject)) (ls ∷ []) → matchTable n m a ts subject out ≡ ifSubject (grammar false subject) out (outcome (answer 19 []) out)
+    → 1024 < peak eqb (map fnv (tokens subject)) (ls ∷ []) → matchTable n m a ts subject out ≡ ifParsed (grammar false subject) out (outcome (answer 19 []) out)
 unfolding matchTable
 match-passes a n m ts ls H subject out passes =
     rw (counts-hold a n m ts ls H, walk-passes 1024 a n m ts ls H (map fnv (tokens subject)) (hashes-fit (tokens subject)) (omega arith) (omega (arith, passes)))

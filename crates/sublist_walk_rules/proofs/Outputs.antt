@@ -12,7 +12,8 @@ use Rattle.subject_rules.specs.Fnv.{fnv}
 use Rattle.subject_rules.specs.Answers.{Answer, answer}
 use Rattle.subject_rules.specs.Grammar.{grammar}
 use Rattle.sublist_walk_rules.specs.Walk.{Walked, found, failed, walkOver}
-use Rattle.sublist_walk_rules.specs.Matching.{over, countsFit, Outcome, outcome, written, ifSubject, matchTable}
+use Rattle.subject_rules.specs.Outputs.{over, Outcome, outcome, ifParsed}
+use Rattle.sublist_walk_rules.specs.Matching.{countsFit, written, matchTable}
 
 -- the first value is the list's length
 abbrev pub Leaves : List ℕ → Outcome → Type 0
@@ -27,7 +28,7 @@ match-leaves n m a ts subject out = go (grammar false subject) (countsFit n m a 
     fits true list peak = refl
     fits false list peak = ap (λ (l : List ℕ). over l out) (sym (take-append-seam list (drop (length list) out)))
 
-    go : (g : Answer) (b : Bool) (w : Walked) → Leaves out (ifSubject g out (pick b (written w out) (outcome (answer 19 []) out)))
+    go : (g : Answer) (b : Bool) (w : Walked) → Leaves out (ifParsed g out (pick b (written w out) (outcome (answer 19 []) out)))
     go (answer (suc k) values) b w = refl
     go (answer zero values) false w = refl
     go (answer zero values) true (failed f) = refl

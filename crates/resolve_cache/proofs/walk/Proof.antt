@@ -8,7 +8,7 @@ use borrow.Author.Needs.{needs}
 use Rattle.subject.specs.declared.Parsed.the-variants.{Refused}
 use Rattle.subject_rules.specs.Answers.{Answer, whenAccepted}
 use Rattle.subject.proofs.Refusals.{refused-stands}
-use Rattle.sublist_walk_rules.specs.Matching.{outcome}
+use Rattle.subject_rules.specs.Outputs.{outcome}
 use Rattle.sublist_snapshot.specs.declared.SnapshotMatch.{SnapshotMatch}
 use Rattle.sublist_snapshot.specs.declared.SnapshotMatch.the-variants.{Listed, Invalid, Damaged, OutShort}
 use Rattle.sublist_snapshot.specs.Snapshot.{matchIn}

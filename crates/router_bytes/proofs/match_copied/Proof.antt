@@ -1,7 +1,7 @@
 -- `router_bytes::match_copied` meets its contract: what the match leaves in the words goes back to the bytes.
 use mathlib.Core.Path.{ap, _∙_}
 use borrow.Author.Needs.{needs}
-use Rattle.sublist_walk_rules.specs.Matching.{Outcome, outcome}
+use Rattle.subject_rules.specs.Outputs.{Outcome, outcome}
 use Rattle.sublist_walk.specs.Answers.{matchAnswer}
 use Rattle.router_bytes_rules.specs.Bytes.{onBytes}
 use Rattle.router_bytes.proofs.match_copied.Statement.{statement}
