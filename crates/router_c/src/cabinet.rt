@@ -21,7 +21,7 @@ ghost use Rattle.sublist_snapshot.specs.Snapshot.{make, makeEmpty, storeIn, mat
 ghost use Rattle.resolve_cache_rules.specs.Cache.{withCapacity, clear, resolve};
 ghost use Rattle.resolve_cache_rules.specs.Answers.{lent};
 ghost use Rattle.binding.specs.Verdict.{singleHome, resolveSingleHome, resolveSingleHomeCached};
-ghost use Rattle.router_words.specs.Words.{Says, Matches, tableOf, snapshotOf, cacheOf, SaysMadeCache, verdictAnswer};
+ghost use Rattle.router_words.specs.Words.{Says, Writes, tableOf, snapshotOf, cacheOf, SaysMadeCache, verdictAnswer};
 ghost use Rattle.router_words.specs.Words.{answerIn, cacheIn, Makes, Stores, Resolves, Judges, JudgesCached};
 ghost use Rattle.router_bytes_rules.specs.Bytes.{resolveBytes};
 ghost use Rattle.router_bytes.specs.Answers.{bytesAnswer};
@@ -93,7 +93,7 @@ pub extern "C" fn router_snapshot_match(
     out: &mut [u32],
 ) -> CAnswer
     ensures { λ r. ⌜
-        Matches r (now (out .exit))
+        Writes r (now (out .exit))
         (matchIn (snapshotOf snapshot) (now (area .entry)) (now (subject .entry)) (now (out .entry))) ⌝ }
 {
     let standing = router_words::from_c_snapshot(snapshot);

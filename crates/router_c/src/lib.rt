@@ -28,6 +28,7 @@ pub use router_words::CStored;
 pub use router_words::CVerdict;
 pub use tables::router_match;
 pub use tables::router_match_bytes;
+pub use texts::router_crossing;
 pub use texts::router_depth;
 pub use texts::router_has_tail_wildcard;
 pub use texts::router_matches;

@@ -2,7 +2,7 @@
 use router_bytes::BytesMatch;
 use router_words::CAnswer;
 ghost use Rattle.sublist_walk_rules.specs.Matching.{matchTable};
-ghost use Rattle.router_words.specs.Words.{Says, Matches};
+ghost use Rattle.router_words.specs.Words.{Says, Writes};
 ghost use Rattle.router_bytes_rules.specs.Bytes.{matchBytes};
 ghost use Rattle.router_bytes.specs.Answers.{bytesMatchAnswer};
 
@@ -18,7 +18,7 @@ pub extern "C" fn router_match(
     out: &mut [u32],
 ) -> CAnswer
     ensures { λ r. ⌜
-        Matches r (now (out .exit))
+        Writes r (now (out .exit))
         (matchTable nodes targets (now («node_words» .entry)) (now («target_words» .entry))
         (now (subject .entry)) (now (out .entry))) ⌝ }
 {
@@ -54,7 +54,7 @@ pub extern "C" fn router_match_bytes(
     out_bytes: &mut [u8],
 ) -> CAnswer
     ensures { λ r. ⌜
-        Matches r (now («out_bytes» .exit))
+        Writes r (now («out_bytes» .exit))
         (matchBytes nodes targets (now («node_bytes» .entry)) (now («target_bytes» .entry))
         (now (subject .entry)) (now («out_bytes» .entry))) ⌝ }
 {

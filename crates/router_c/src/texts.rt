@@ -1,4 +1,4 @@
-// Texts: the grammar, a match of two texts, hashes and tokens.
+// Texts: the grammar, a match of two texts, what two patterns have in common, hashes and tokens.
 use router_words::CAnswer;
 ghost use mathlib.Core.Path.{_≡_};
 ghost use mathlib.Core.Bool.{true, false};
@@ -9,7 +9,8 @@ ghost use Rattle.subject.specs.Answers.{placed};
 ghost use Rattle.subject_rules.specs.Grammar.{grammar};
 ghost use Rattle.subject_rules.specs.Matching.{matching};
 ghost use Rattle.subject_rules.specs.Fnv.{fnv};
-ghost use Rattle.router_words.specs.Words.{Says, bit};
+ghost use Rattle.crossing_rules.specs.Crossing.{crossing};
+ghost use Rattle.router_words.specs.Words.{Says, Writes, bit};
 
 // A text as a literal subject: its token count, or why it is refused.
 #[no_mangle]
@@ -33,6 +34,17 @@ pub extern "C" fn router_matches(pattern: &[u8], subject: &[u8]) -> CAnswer
     ensures { λ r. ⌜ Says r (matching (now (pattern .entry)) (now (subject .entry))) ⌝ }
 {
     router_words::to_c_matched(subject::matches(pattern, subject))
+}
+
+// A shortest subject that two patterns both match, written over the first places of the output: 1 and its length; or 0.
+// Or why a pattern is refused, the first one first, or 21.
+#[no_mangle]
+pub extern "C" fn router_crossing(first: &[u8], second: &[u8], out: &mut [u8]) -> CAnswer
+    ensures { λ r. ⌜
+        Writes r (now (out .exit))
+        (crossing (now (first .entry)) (now (second .entry)) (now (out .entry))) ⌝ }
+{
+    router_words::to_c_crossed(crossing::crossing(first, second, out))
 }
 
 // The hash of a token.

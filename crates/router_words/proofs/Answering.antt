@@ -11,7 +11,7 @@ use Rattle.subject_rules.specs.Outputs.{Outcome, outcome}
 use Rattle.resolve_cache_rules.specs.declared.ResolveCache.{ResolveCache}
 use Rattle.router_words.specs.declared.CAnswer.{CAnswer}
 use Rattle.router_words.specs.declared.CResolved.{CResolved}
-use Rattle.router_words.specs.Words.{numberOf, valueOf, Says, Matches, answerIn, cacheIn}
+use Rattle.router_words.specs.Words.{numberOf, valueOf, Says, Writes, answerIn, cacheIn}
 
 -- an equal struct says the same
 pub says-as : {r s : CAnswer} {a : Answer} → r ≡ s → Says s a → Says r a
@@ -37,6 +37,6 @@ two-values (WildcardNotAllowed ch i) = (refl, refl)
 two-values (ControlChar ch i) = (refl, refl)
 two-values (IllegalChar ch i) = (refl, refl)
 
--- the answer of a match, with the output that it leaves
-pub told-match : {r : CAnswer} {out : List ℕ} {a : Answer} {o : Outcome} → Says r a → outcome a out ≡ o → Matches r out o
-told-match {r} {out} {a} p e = subst (λ (x : Outcome). Matches r out x) e (p, refl)
+-- an answer, with the output that the call leaves
+pub told-outcome : {r : CAnswer} {out : List ℕ} {a : Answer} {o : Outcome} → Says r a → outcome a out ≡ o → Writes r out o
+told-outcome {r} {out} {a} p e = subst (λ (x : Outcome). Writes r out x) e (p, refl)

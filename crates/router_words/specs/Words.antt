@@ -63,9 +63,9 @@ pub record Builds (r : CAnswer) (nodes targets : List ℕ) (o : BuildOutcome) : 
   pub says : Says r (o .says)
   pub areas-are : filling nodes targets ≡ o .areas
 
--- a match: its answer, and the output afterwards
-abbrev pub Matches : CAnswer → List ℕ → Outcome → Type 0
-Matches r out (outcome a list) = Says r a × (out ≡ list)
+-- a call that writes an output: its answer, and the output afterwards
+abbrev pub Writes : CAnswer → List ℕ → Outcome → Type 0
+Writes r out (outcome a list) = Says r a × (out ≡ list)
 
 -- a table of so many nodes and targets with its words
 abbrev pub tableOf : ℕ → ℕ → ℕ → List ℕ → List ℕ → Table

@@ -3,6 +3,7 @@ use binding::CachedResolution;
 use binding::CachedSingleHome;
 use binding::Resolution;
 use binding::SingleHome;
+use crossing::Crossed;
 use resolve_cache::ResolveAnswer;
 use resolve_cache::Resolved;
 use resolve_cache_rules::MadeCache;
@@ -26,6 +27,7 @@ ghost use mathlib.Core.Path.{_≡_};
 ghost use mathlib.Core.List.{[], _∷_};
 ghost use Rattle.subject_rules.specs.Answers.{answer};
 ghost use Rattle.subject.specs.Answers.{refusal, parsed, matched, placed};
+ghost use Rattle.crossing.specs.Answers.{crossed};
 ghost use Rattle.sublist_entries.specs.Answers.{insertAnswer};
 ghost use Rattle.sublist_rules.specs.Building.{held};
 ghost use Rattle.sublist.specs.Answers.{buildRefusal, buildAnswer};
@@ -206,6 +208,18 @@ pub fn to_c_matched(m: Matched) -> CAnswer
         Matched::Yes => with_value(0, 1),
         Matched::No => with_value(0, 0),
         Matched::Invalid(e) => to_c_refusal(e),
+    }
+}
+
+// What two patterns have in common: 1 and a subject's length, or 0; or the refusal.
+pub fn to_c_crossed(c: Crossed) -> CAnswer
+    ensures { λ r. ⌜ Says r (crossed c) ⌝ }
+{
+    match c {
+        Crossed::Common(size) => with_two(0, 1, size as u64),
+        Crossed::Apart => with_value(0, 0),
+        Crossed::Invalid(e) => to_c_refusal(e),
+        Crossed::OutShort(needed) => with_value(21, needed as u64),
     }
 }
 

@@ -9,4 +9,5 @@ pub mod OriginalRows
 pub mod Pieces
 pub mod SameGrammar
 pub mod SameMatching
+pub mod Stores
 pub mod Utf8Rows

@@ -16,7 +16,7 @@ use Rattle.sublist_walk_rules.specs.declared.Failure.{Failure}
 use Rattle.sublist_walk_rules.specs.declared.Failure.the-variants as failure
 use Rattle.sublist_walk_rules.specs.Walk.{part, among, Level, level, broken, collect, push, pushes, children, visit, visits, exact}
 use Rattle.sublist_walk.specs.Told.{Added}
-use Rattle.sublist_walk_rules.proofs.Parts.{sets-append}
+use Rattle.subject_rules.proofs.Stores.{sets-append}
 
 -- nothing yet
 pub listed-none : (at : ℕ) (out : List ℕ) → Added (level [] []) [] at at 0 out out

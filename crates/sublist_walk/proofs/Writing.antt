@@ -18,15 +18,14 @@ use Rattle.subject_rules.specs.Text.{tokens}
 use Rattle.subject_rules.specs.Fnv.{fnv}
 use Rattle.subject_rules.specs.Utf8.{firstBad}
 use Rattle.subject_rules.specs.Answers.{Answer, answer, unless, whenAccepted}
-use Rattle.subject.specs.Answers.{refusal, parsed}
+use Rattle.subject.specs.Answers.{parsed}
 use Rattle.subject_rules.specs.Grammar.{check, notUtf8, grammar}
 use Rattle.subject.specs.declared.SubjectError.{SubjectError}
-use Rattle.subject.specs.declared.SubjectError.the-variants.{TooLong, NotUtf8, Empty, TailWildcardNotLast, TooDeep, EmptyToken, WildcardNotAllowed, ControlChar, IllegalChar}
 use Rattle.subject.specs.declared.Parsed.{Parsed}
 use Rattle.subject.specs.declared.Parsed.the-variants.{Accepted, Refused}
 use Rattle.sublist_walk_rules.specs.Walk.{part, Walked, found, failed, walkOver}
-use Rattle.subject.proofs.Refusals.{refused-stands}
-use Rattle.subject_rules.specs.Outputs.{Outcome, outcome, over, ifParsed}
+use Rattle.subject.proofs.Refusals.{refused-leaves}
+use Rattle.subject_rules.specs.Outputs.{Outcome, outcome, over}
 use Rattle.sublist_walk_rules.specs.Matching.{countsFit, written, matchTable, matchParsed}
 use Rattle.sublist_walk.specs.Answers.{matchAnswer}
 use Rattle.sublist_walk.specs.Told.{walkOf, Finds, Ends, Holding, Wrote, tried, settled, Answers, Tries}
@@ -186,23 +185,11 @@ pub parsed-same : (n m : ℕ) (a ts subject out values : List ℕ) → grammar f
 unfolding matchParsed matchTable
 parsed-same n m a ts subject out values e = rw (accepted-short subject values e, e)
 
--- a refused subject leaves the output
-refusal-leaves : (e : SubjectError) (out : List ℕ) (after : Outcome) → outcome (refusal e) out ≡ ifParsed (refusal e) out after
-refusal-leaves TooLong out after = refl
-refusal-leaves (NotUtf8 i) out after = refl
-refusal-leaves Empty out after = refl
-refusal-leaves (TailWildcardNotLast i) out after = refl
-refusal-leaves (TooDeep d) out after = refl
-refusal-leaves (EmptyToken i) out after = refl
-refusal-leaves (WildcardNotAllowed b i) out after = refl
-refusal-leaves (ControlChar b i) out after = refl
-refusal-leaves (IllegalChar b i) out after = refl
-
 module _ (n m : ℕ) (a ts subject out : List ℕ) (text : Parsed) (p : parsed text ≡ grammar false subject) where
   pub subject-refused : (e : SubjectError) → text ≡ Refused e → (r : Answer) → r ≡ whenAccepted (parsed text) (answer 19 [])
       → outcome r out ≡ matchTable n m a ts subject out
   unfolding matchTable
-  subject-refused e t r s = rw (s, ← refused-stands text e (answer 19 []) t, ← p, t) (refusal-leaves e out _)
+  subject-refused e t r s = rw (← p) (refused-leaves text e t r _ s out _)
 
   pub subject-accepted : (c : ℕ) → text ≡ Accepted c → (x : Outcome) → x ≡ matchParsed n m a ts subject out → x ≡ matchTable n m a ts subject out
   subject-accepted c t x s = s ∙ parsed-same n m a ts subject out (c ∷ []) (sym p ∙ ap parsed t)

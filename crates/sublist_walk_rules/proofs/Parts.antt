@@ -1,6 +1,6 @@
 -- Parts of lists as the loops go through them: what has been read of a frontier, what has been copied.
 use Prim.Native.Nat.{ℕ, suc, _+_, _-_, _≤_, _<_}
-use native.Mathlib.Nat.{add-suc, suc-add, add-zero, zero-add}
+use native.Mathlib.Nat.{add-suc, zero-add}
 use native.Mathlib.Numerals.{add-one}
 use native.Mathlib.Omega.{arith}
 use mathlib.Core.Path.{_≡_, refl, sym, _∙_}
@@ -8,9 +8,10 @@ use mathlib.Core.Bool.{Bool, true, false}
 use mathlib.Core.List.{List, [], _∷_, _++_}
 use lib.Dec.{eqb}
 use lib.ListN.{length, getD, take, set}
-use lib.Seq.{take-suc, drop-cons, set-out, sets}
+use lib.Seq.{take-suc, drop-cons, sets}
 use borrow.Author.Tests.{eq-eqb, ne-eqb}
 use Rattle.subject_rules.specs.Choice.{or}
+use Rattle.subject_rules.proofs.Stores.{sets-out, sets-append}
 use Rattle.sublist_walk_rules.specs.Walk.{part, among}
 
 or-true : (b : Bool) → or b true ≡ true
@@ -37,16 +38,7 @@ module _ (l : List ℕ) (i j : ℕ) (h : i < length l) where
   pub among-other : (getD l i 0 ≡ j → ⊥) → among j (take (i + 1) l) ≡ among j (take i l)
   among-other e = rw (add-one i, take-suc l i 0 h, among-snoc j (take i l) (getD l i 0), ne-eqb j (getD l i 0) (λ x. e (sym x))) (or-false (among j (take i l)))
 
--- a run of stores outside a list changes nothing
-pub sets-out : (l : List ℕ) (at : ℕ) (vs : List ℕ) → length l ≤ at → sets l at vs ≡ l
-sets-out l at [] h = refl
-sets-out l at (v ∷ vs) h = rw (set-out l at v h) (sets-out l (suc at) vs (omega arith))
-
--- two runs of stores, one behind the other
-pub sets-append : (l : List ℕ) (at : ℕ) (us vs : List ℕ) → sets l at (us ++ vs) ≡ sets (sets l at us) (at + length us) vs
-sets-append l at [] vs = rw (add-zero at)
-sets-append l at (u ∷ us) vs = rw (add-suc at (length us), ← suc-add at (length us)) (sets-append (set l at u) (suc at) us vs)
-
+-- two runs of stores, the first at the start
 pub sets-behind : (l us vs : List ℕ) → sets l 0 (us ++ vs) ≡ sets (sets l 0 us) (length us) vs
 sets-behind l us vs = rw zero-add at (sets-append l 0 us vs)
 

@@ -2,7 +2,7 @@
 use mathlib.Core.Path.{ap, _∙_}
 use Rattle.sublist_snapshot.specs.declared.Snapshot.{Snapshot}
 use Rattle.sublist_snapshot.specs.Snapshot.{matchIn}
-use Rattle.router_words.proofs.Answering.{told-match}
+use Rattle.router_words.proofs.Answering.{told-outcome}
 use borrow.Author.Needs.{needs}
 use Rattle.router_c.proofs.cabinet.router_snapshot_match.Statement.{statement}
 use Rattle.router_c.proofs.cabinet.router_snapshot_match.Tie as tie
@@ -12,7 +12,7 @@ returns c =
     let k = c .before .before .before in
     let s = k .before .before in
     let a = s .before .before .before .before .args in
-    told-match (c .to-c-snapshot-match .ensures)
+    told-outcome (c .to-c-snapshot-match .ensures)
     (k .match-into .ensures ∙ ap (λ (x : Snapshot). matchIn x (a .area .now) (a .subject .now) (a .out .now)) (s .from-c-snapshot .ensures))
 
 pub router-snapshot-match-spec : {M : Type 1} → statement M
