@@ -27,7 +27,7 @@ pub fn resolved_values(resolved: &Resolved) -> Result<[u64; 3], Refusal> {
 }
 
 /// The first `length` places, or all if there are fewer.
-pub fn front(list: &[u32], length: u64) -> &[u32] {
+pub fn front<T>(list: &[T], length: u64) -> &[T] {
     list.get(..size(length)).unwrap_or(list)
 }
 

@@ -47,6 +47,7 @@ pub use limits::*;
 pub use refusal::{Refusal, TextRefusal};
 pub use resolve_cache::{Listed, ResolveCache};
 pub use subject::{
-    depth, has_tail_wildcard, matches, nth_token, parse, parse_literal, token_hash, tokens,
+    crossing, depth, has_tail_wildcard, matches, nth_token, parse, parse_literal, token_hash,
+    tokens,
 };
 pub use sublist::{build, Built, List, Match, Snapshot, StandingMatch, Table};

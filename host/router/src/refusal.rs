@@ -57,7 +57,7 @@ pub enum Refusal {
     Damaged,
     /// 20: the snapshot's area is shorter than the table.
     StoreFull,
-    /// 21: the list has so many targets, and the output is shorter.
+    /// 21: the list has so many targets, or the subject so many bytes, and the output is shorter.
     OutShort { needed: usize },
     /// 99: the areas of a call on bytes are too long.
     CopyFull,
@@ -300,7 +300,7 @@ impl fmt::Display for Refusal {
             Refusal::BadSlot => f.write_str("the cache's state or slots hold what no call leaves there: make the cache anew"),
             Refusal::Damaged => write!(f, "the table is damaged: its counts or words point outside its areas, or more than {MAX_FRONTIER} places would be reached; build it anew"),
             Refusal::StoreFull => f.write_str("the snapshot's area is shorter than the table: lend a longer area"),
-            Refusal::OutShort { needed } => write!(f, "the list has {needed} targets and the output is shorter: lend at least {needed} places"),
+            Refusal::OutShort { needed } => write!(f, "the output is too short for the answer: lend at least {needed} places, one a target of a list or a byte of a subject"),
             Refusal::CopyFull => write!(f, "the areas have together more than {COPY_BYTES} bytes: use the call on words"),
             Refusal::Unknown { number, .. } => write!(f, "the library gave an answer that this program does not know, number {number}: use the library and the program of one version"),
         }

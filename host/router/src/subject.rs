@@ -1,5 +1,5 @@
-//! Texts: subjects and patterns, and whether one matches the other.
-use crate::answers::{accepted, size};
+//! Texts: subjects and patterns, whether one matches the other, and whether two patterns have a subject in common.
+use crate::answers::{accepted, front, size};
 use crate::{raw, Refusal};
 use core::ops::Range;
 
@@ -16,6 +16,21 @@ pub fn parse(text: &[u8]) -> Result<usize, Refusal> {
 /// Whether a pattern matches a subject, or why one of the two is refused (1 to 9), the pattern first.
 pub fn matches(pattern: &[u8], subject: &[u8]) -> Result<bool, Refusal> {
     accepted(raw::matches(pattern, subject)).map(|[yes, ..]| yes == 1)
+}
+
+/// A subject that two patterns both match, in the first bytes of `out`; or none, exactly if no accepted subject, so of at most 4,096 bytes, matches both.
+/// Every other that both match has at least as many bytes. A position that is wild in both patterns has the token `x`.
+///
+/// Or why one of the two is refused (1 to 9), the first before the second; then 21, where the subject is longer than `out`. [`crate::MAX_TEXT`] bytes
+/// are always enough; where there is no subject, none are needed. Only the bytes of the subject are written: the rest of the output is as it was, and
+/// so is all of it where there is none, and on a refusal.
+pub fn crossing<'o>(
+    first: &[u8],
+    second: &[u8],
+    out: &'o mut [u8],
+) -> Result<Option<&'o [u8]>, Refusal> {
+    let [found, length, _] = accepted(raw::crossing(first, second, out))?;
+    Ok((found == 1).then(|| front(out, length)))
 }
 
 /// The hash by which a table tells tokens apart: 64-bit FNV-1a.
@@ -47,7 +62,7 @@ pub fn tokens(text: &[u8]) -> impl Iterator<Item = &[u8]> {
 #[cfg(test)]
 mod tests {
     use super::*;
-    use crate::TextRefusal;
+    use crate::{TextRefusal, MAX_TEXT};
 
     #[test]
     fn texts() {
@@ -68,6 +83,84 @@ mod tests {
         assert_eq!(matches(b"a.>", b"a"), Ok(false));
         let inside = TextRefusal::IllegalChar { ch: '*', index: 0 };
         assert_eq!(matches(b"a*", b""), Err(inside.into()));
+    }
+
+    /// The byte that an output holds before a call.
+    const UNTOUCHED: u8 = b'-';
+
+    /// The length of a subject in common, with an output of so many bytes. Both patterns match it, and what is not written is left.
+    fn crossed<const BYTES: usize>(first: &[u8], second: &[u8]) -> Result<Option<usize>, Refusal> {
+        let mut out = [UNTOUCHED; BYTES];
+        let length = crossing(first, second, &mut out).map(|found| {
+            found.map(|subject| {
+                assert_eq!(matches(first, subject), Ok(true));
+                assert_eq!(matches(second, subject), Ok(true));
+                subject.len()
+            })
+        });
+        let written = length.ok().flatten().unwrap_or(0);
+        assert!(out[written..].iter().all(|&byte| byte == UNTOUCHED));
+        length
+    }
+
+    #[test]
+    fn subjects_in_common() {
+        let rows: [(&[u8], &[u8], &[u8]); 7] = [
+            (b"a.*", b"*.b", b"a.b"),
+            (b">", b">", b"x"),
+            (b"a.>", b"*.*.b", b"a.x.b"),
+            (b"*.*.b", b"a.>", b"a.x.b"),
+            (b"*", b">", b"x"),
+            (b"a.b", b"a.b", b"a.b"),
+            ("weiche-ö.*".as_bytes(), b">", "weiche-ö.x".as_bytes()),
+        ];
+        for (first, second, subject) in rows {
+            assert_eq!(crossing(first, second, &mut [0; 16]), Ok(Some(subject)));
+            assert_eq!(crossed::<16>(first, second), Ok(Some(subject.len())));
+        }
+    }
+
+    #[test]
+    fn no_subject_in_common() {
+        let rows: [(&[u8], &[u8]); 5] = [
+            (b"a.>", b"a"),
+            (b"a", b"a.>"),
+            (b"a.b", b"a.c"),
+            (b"*", b"*.*"),
+            (b"a.*.c", b"*.b.d"),
+        ];
+        for (first, second) in rows {
+            assert_eq!(crossed::<9>(first, second), Ok(None));
+            assert_eq!(crossed::<0>(first, second), Ok(None));
+        }
+    }
+
+    #[test]
+    fn crossings_refused() {
+        let empty = TextRefusal::EmptyToken { index: 1 };
+        let inside = TextRefusal::IllegalChar { ch: '*', index: 0 };
+        assert_eq!(crossed::<9>(b"a..b", b"a*"), Err(empty.into()));
+        assert_eq!(crossed::<9>(b"a*", b"a..b"), Err(inside.into()));
+        assert_eq!(crossed::<0>(b"a", b"a..b"), Err(empty.into()));
+        let short = Err(Refusal::OutShort { needed: 5 });
+        assert_eq!(crossed::<4>(b"a.>", b"*.*.b"), short);
+        assert_eq!(crossed::<0>(b"a.>", b"*.*.b"), short);
+        assert_eq!(crossed::<5>(b"a.>", b"*.*.b"), Ok(Some(5)));
+    }
+
+    #[test]
+    fn the_longest_subject_in_common() {
+        let mut second = [b'b'; 2 + 2048];
+        second[..2].copy_from_slice(b"*.");
+        let mut first = [b'a'; 2047 + 2];
+        first[2047..].copy_from_slice(b".*");
+        assert_eq!(crossed::<MAX_TEXT>(&first, &second), Ok(Some(4096)));
+        let short = Err(Refusal::OutShort { needed: 4096 });
+        assert_eq!(crossed::<4095>(&first, &second), short);
+        let mut first = [b'a'; 2048 + 2];
+        first[2048..].copy_from_slice(b".*");
+        assert_eq!(crossed::<MAX_TEXT>(&first, &second), Ok(None));
+        assert_eq!(crossed::<0>(&first, &second), Ok(None));
     }
 
     #[test]

@@ -12,6 +12,10 @@ calls! {
     /// Whether a pattern matches a subject, as 1 or 0, or why one of the two is refused, the pattern first.
     pub fn matches(pattern: &[u8], subject: &[u8]) -> Answer = router_matches;
 
+    /// A shortest subject that two patterns both match, written to `out` from the first byte on: 1 and its length in bytes, or 0 where there is none.
+    /// Or 1 to 9 of the first pattern, then of the second; or 21.
+    pub fn crossing(first: &[u8], second: &[u8], out: &mut [u8]) -> Answer = router_crossing;
+
     /// The hash of a token: 64-bit FNV-1a.
     pub fn token_hash(token: &[u8]) -> u64 = router_token_hash;
 
