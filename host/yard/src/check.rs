@@ -4,7 +4,8 @@ use crate::json::Object;
 use crate::list::Line;
 use crate::load::{ListFile, Loaded};
 use crate::notes::Notes;
-use crate::shown::{counted, grouped};
+use crate::pairs::{self, Count};
+use crate::shown::{counted, grouped, typed};
 use crate::tables::OwnedTable;
 use crate::trouble::{Status, Trouble};
 use router::{node_words, table_words, MAX_ENTRIES, MAX_FRONTIER, MAX_NODES, MAX_TEXT};
@@ -19,69 +20,95 @@ struct Figure {
     limit: usize,
 }
 
-fn figures(lines: &[Line<'_>], table: &OwnedTable) -> [Figure; 5] {
-    let figure = |name, key, used, limit| Figure {
-        name,
-        key,
-        used,
-        limit,
-    };
-    [
-        figure("entries", "entries", lines.len(), MAX_ENTRIES),
-        figure(
-            "text bytes",
-            "text_bytes",
-            table.text_bytes,
-            MAX_ENTRIES * MAX_TEXT,
-        ),
-        figure("nodes", "nodes", table.nodes, MAX_NODES),
-        figure(
-            "node words",
-            "node_words",
-            node_words(table.nodes),
-            node_words(MAX_NODES),
-        ),
-        figure("worst case", "worst_case", table.worst_case, MAX_FRONTIER),
-    ]
+/// A list that is accepted.
+struct Accepted<'a, 'f> {
+    /// The list as it stands on the command line, and its name for messages.
+    list: &'a OsStr,
+    name: &'a str,
+    lines: &'a [Line<'f>],
+    table: &'a OwnedTable,
+    crossing: Count,
 }
 
-fn write_accepted(
-    out: &mut impl Write,
-    name: &str,
-    lines: &[Line<'_>],
-    table: &OwnedTable,
-) -> io::Result<()> {
-    writeln!(out, "{name}: accepted\n")?;
-    for figure in figures(lines, table) {
-        let (used, limit) = (grouped(figure.used), grouped(figure.limit));
-        let left = grouped(figure.limit.saturating_sub(figure.used));
+impl Accepted<'_, '_> {
+    fn figures(&self) -> [Figure; 5] {
+        let figure = |name, key, used, limit| Figure {
+            name,
+            key,
+            used,
+            limit,
+        };
+        let (nodes, text_bytes) = (self.table.nodes, self.table.text_bytes);
+        [
+            figure("entries", "entries", self.lines.len(), MAX_ENTRIES),
+            figure(
+                "text bytes",
+                "text_bytes",
+                text_bytes,
+                MAX_ENTRIES * MAX_TEXT,
+            ),
+            figure("nodes", "nodes", nodes, MAX_NODES),
+            figure(
+                "node words",
+                "node_words",
+                node_words(nodes),
+                node_words(MAX_NODES),
+            ),
+            figure(
+                "worst case",
+                "worst_case",
+                self.table.worst_case,
+                MAX_FRONTIER,
+            ),
+        ]
+    }
+
+    fn write(&self, out: &mut impl Write) -> io::Result<()> {
+        writeln!(out, "{}: accepted\n", self.name)?;
+        for figure in self.figures() {
+            let (used, limit) = (grouped(figure.used), grouped(figure.limit));
+            let left = grouped(figure.limit.saturating_sub(figure.used));
+            writeln!(
+                out,
+                "  {:<10} {used:>9} of {limit:>9}, {left:>9} left",
+                figure.name
+            )?;
+        }
+        let bytes = 4 * table_words(self.table.nodes, self.table.targets);
+        writeln!(out, "\nThe table takes {} bytes.", grouped(bytes))?;
         writeln!(
             out,
-            "  {:<10} {used:>9} of {limit:>9}, {left:>9} left",
-            figure.name
+            "An order stands at {} of the table at once, at the most.",
+            counted(self.table.worst_case, "place")
         )?;
+        self.write_crossing(out)?;
+        Notes::on(self.lines).write(out)
     }
-    let bytes = 4 * table_words(table.nodes, table.targets);
-    writeln!(out, "\nThe table takes {} bytes.", grouped(bytes))?;
-    writeln!(
-        out,
-        "An order stands at {} of the table at once, at the most.",
-        counted(table.worst_case, "place")
-    )?;
-    Notes::on(lines).write(out)
-}
 
-fn accepted_json(name: &str, lines: &[Line<'_>], table: &OwnedTable) -> String {
-    let mut object = Object::default()
-        .bytes("list", name.as_bytes())
-        .field("accepted", true);
-    for figure in figures(lines, table) {
-        let value = Object::default()
-            .field("used", figure.used)
-            .field("limit", figure.limit);
-        object = object.field(figure.key, value.end());
+    /// The note on lines that one order can meet.
+    fn write_crossing(&self, out: &mut impl Write) -> io::Result<()> {
+        if self.crossing.total() == 0 {
+            return Ok(());
+        }
+        let list = typed(&self.list.to_string_lossy());
+        writeln!(out, "\nNote: {}", self.crossing.text())?;
+        writeln!(out, "  `yard crossing {list}` shows them")
     }
-    Notes::on(lines).json(object).end()
+
+    fn json(&self) -> String {
+        let mut object = Object::default()
+            .bytes("list", self.name.as_bytes())
+            .field("accepted", true);
+        for figure in self.figures() {
+            let value = Object::default()
+                .field("used", figure.used)
+                .field("limit", figure.limit);
+            object = object.field(figure.key, value.end());
+        }
+        let crossing = self.crossing.json(Object::default());
+        let object = object.field("crossing", crossing.end());
+        Notes::on(self.lines).json(object).end()
+    }
 }
 
 fn write_refused(out: &mut impl Write, name: &str, loaded: &Loaded<'_>) -> io::Result<()> {
@@ -104,14 +131,17 @@ pub fn run(list: &OsStr, options: &Options, out: &mut impl Write) -> Result<Stat
         }
         return Ok(Status::Refused);
     };
+    let accepted = Accepted {
+        list,
+        name,
+        lines: &loaded.lines,
+        table: &tables.targets,
+        crossing: pairs::count(&loaded.lines)?,
+    };
     if options.json {
-        writeln!(
-            out,
-            "{}",
-            accepted_json(name, &loaded.lines, &tables.targets)
-        )?;
+        writeln!(out, "{}", accepted.json())?;
     } else {
-        write_accepted(out, name, &loaded.lines, &tables.targets)?;
+        accepted.write(out)?;
     }
     Ok(Status::Good)
 }

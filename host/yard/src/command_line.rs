@@ -7,6 +7,7 @@ use std::ffi::OsString;
 pub struct Options {
     pub json: bool,
     pub verbose: bool,
+    pub patterns: bool,
     pub depth: Option<usize>,
     pub under: Option<Vec<u8>>,
 }
@@ -25,6 +26,11 @@ pub enum Command {
     },
     Tree {
         list: OsString,
+    },
+    /// A list; a list and a pattern; or two patterns.
+    Crossing {
+        first: OsString,
+        second: Option<OsString>,
     },
     Parse {
         texts: Vec<Vec<u8>>,
@@ -79,6 +85,7 @@ fn sort(mut arguments: impl Iterator<Item = OsString>) -> Result<Sorted, Trouble
         match argument.to_str() {
             Some("--json") => sorted.options.json = true,
             Some("--verbose" | "-v") => sorted.options.verbose = true,
+            Some("--patterns") => sorted.options.patterns = true,
             Some("--depth") => {
                 sorted.options.depth = Some(depth_of(&value("--depth", &mut arguments)?)?);
             }
@@ -123,6 +130,16 @@ fn route(mut words: Vec<OsString>) -> Result<Command, Trouble> {
     Ok(Command::Route { list, subjects })
 }
 
+fn crossing(words: Vec<OsString>) -> Result<Command, Trouble> {
+    let mut words = words.into_iter();
+    match (words.next(), words.next(), words.next()) {
+        (Some(first), second, None) => Ok(Command::Crossing { first, second }),
+        _ => Err(usage(
+            "yard crossing takes a list, a list and a pattern, or two patterns".into(),
+        )),
+    }
+}
+
 fn matches(words: Vec<OsString>) -> Result<Command, Trouble> {
     match <[OsString; 2]>::try_from(words) {
         Ok([pattern, subject]) => Ok(Command::Matches {
@@ -146,6 +163,7 @@ fn command(name: &OsString, words: Vec<OsString>) -> Result<Command, Trouble> {
         Some("check") => one("check", "list", words).map(|list| Command::Check { list }),
         Some("route") => route(words),
         Some("tree") => one("tree", "list", words).map(|list| Command::Tree { list }),
+        Some("crossing") => crossing(words),
         Some("parse") => parse(words),
         Some("matches") => matches(words),
         Some("texts") => one("texts", "file", words).map(|file| Command::Texts { file }),
@@ -162,12 +180,18 @@ fn check_options(command: &Command, options: &Options) -> Result<(), Trouble> {
     let tree = matches!(command, Command::Tree { .. });
     let route = matches!(command, Command::Route { .. });
     let texts = matches!(command, Command::Texts { .. });
+    let crossing = matches!(command, Command::Crossing { .. });
+    let two = matches!(command, Command::Crossing { second, .. } if second.is_some());
     let misplaced = [
         (options.depth.is_some() && !tree, "--depth is for yard tree"),
         (options.under.is_some() && !tree, "--under is for yard tree"),
         (
-            options.verbose && !tree && !route,
-            "--verbose is for yard route and yard tree",
+            options.verbose && !tree && !route && !crossing,
+            "--verbose is for yard route, yard tree and yard crossing",
+        ),
+        (
+            options.patterns && !two,
+            "--patterns is for yard crossing with two patterns",
         ),
         (options.json && texts, "yard texts has no --json"),
     ];
@@ -229,6 +253,16 @@ mod tests {
                 subjects: vec![b"--json".to_vec()]
             })
         );
+        let crossing = request(&["crossing", "l"]).map(|request| request.command);
+        assert_eq!(
+            crossing,
+            Some(Command::Crossing {
+                first: "l".into(),
+                second: None
+            })
+        );
+        let two = request(&["crossing", "--patterns", "a.*", ">"]);
+        assert!(two.is_some_and(|request| request.options.patterns));
         let deep = request(&["tree", "l", "--depth", "3", "--under", "a.b"]);
         let options = deep.map(|request| (request.options.depth, request.options.under));
         assert_eq!(options, Some((Some(3), Some(b"a.b".to_vec()))));
@@ -247,6 +281,10 @@ mod tests {
             &["tree", "a", "--depth", "x"],
             &["check", "a", "--jason"],
             &["matches", "a"],
+            &["crossing"],
+            &["crossing", "a", "b", "c"],
+            &["crossing", "--patterns", "a"],
+            &["matches", "--patterns", "a", "b"],
             &["parse"],
             &["check", "a", "--depth", "3"],
             &["route", "a", "b", "--under", "c"],

@@ -1,6 +1,6 @@
 //! What is wrong with a list, line by line.
 use crate::json::{array, Object};
-use crate::shown::{counted, shown};
+use crate::shown::{counted, refused, shown};
 use router::Refusal;
 use std::fmt;
 
@@ -26,9 +26,7 @@ impl fmt::Display for Cause {
                 shown(word),
                 u32::MAX
             ),
-            Cause::Refused(refusal) => {
-                write!(f, "refused ({} {}): {refusal}", refusal.number(), refusal.name())
-            }
+            Cause::Refused(refusal) => f.write_str(&refused(refusal)),
         }
     }
 }

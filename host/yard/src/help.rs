@@ -6,6 +6,9 @@ yard: checks a yard's binding list, routes orders by it, and shows why.
   yard check LIST                     is the list accepted, and how much room is left
   yard route LIST [SUBJECT..]         where each order goes, and which lines of the list say so
   yard tree LIST                      the table that is built from the list, drawn as a tree
+  yard crossing LIST                  which lines can meet in one order, which is then Ambiguous
+  yard crossing LIST PATTERN          which lines a new line with this pattern would meet
+  yard crossing PATTERN PATTERN       an order that both patterns match, or that there is none
   yard parse TEXT..                   what each text is as a pattern and as a subject
   yard matches PATTERN SUBJECT        whether one pattern matches one subject
   yard texts FILE                     both, for all lines `pattern TEXT` and `subject TEXT` of a file
@@ -13,9 +16,15 @@ yard: checks a yard's binding list, routes orders by it, and shows why.
 LIST is a file, or - for standard input. Where no SUBJECT is given, subjects are read from standard
 input, one a line; there, empty lines and lines that begin with # are passed over.
 
+Of two words behind crossing, the first is a LIST if it is -, has a / in it, or names a file that is
+there; else both are patterns. So yard.list is a pattern where no file has that name; with --patterns
+it is one anywhere.
+
 Options
   --json          answers for programs: one JSON object a line (not for texts)
-  --verbose, -v   route: the peak, and every matching line of an ambiguous order; tree: node numbers
+  --verbose, -v   route: the peak, and every matching line of an ambiguous order; tree: node numbers;
+                  crossing LIST: every pair of lines, with its order
+  --patterns      crossing: both words are patterns, whatever files there are
   --depth N       tree: no more than N tokens deep
   --under TOKENS  tree: only what lies below these tokens, as yard.north or yard.*
   --              what follows is no option, even where it begins with a dash
@@ -36,11 +45,17 @@ Verdicts: `Routed to N`, exactly one line matches; `NoStream`, none does, and th
 `Ambiguous`, several do, and the order goes nowhere. Matching lines are shown in the router's order:
 those ending in > first, the shorter first; then the others; a name before *; equal patterns as listed.
 
+Two lines meet where both match one order. It is Ambiguous even if they have the same target. An order
+that crossing shows is one example: no order that both match is shorter, and further lines may match it.
+
 Refusals are shown with the number and name of the router's rules. Lines, tokens and bytes are
 counted from 1.
 
 Exit status
-  0   the list is accepted; every subject is routed; every text is accepted; the pattern matches
-  1   some subject is not routed (NoStream, Ambiguous or refused); a text is refused; no match
-  2   the list is refused, the command line is wrong, or a file cannot be read or written
+  0   the list is accepted; every subject is routed; every text is accepted; the pattern matches;
+      no order can meet two lines, the new line and another, or both patterns
+  1   some subject is not routed (NoStream, Ambiguous or refused); a text is refused; no match;
+      crossing shows an order
+  2   the list is refused, or a text of matches or crossing; the command line is wrong, or a file
+      cannot be read or written
 ";

@@ -1,5 +1,7 @@
 //! The lines of a binding list: a pattern, blanks, a target.
 use crate::faults::Cause;
+use crate::json::Object;
+use crate::shown::shown;
 
 /// A line with its pattern and its target. Lines are counted from 1.
 #[derive(Clone, Copy, Debug, PartialEq, Eq)]
@@ -7,6 +9,21 @@ pub struct Line<'f> {
     pub number: usize,
     pub pattern: &'f [u8],
     pub target: u32,
+}
+
+impl Line<'_> {
+    /// The line for the screen, without its target.
+    pub fn text(&self) -> String {
+        format!("line {:<5} {}", self.number, shown(self.pattern))
+    }
+
+    /// The line for programs.
+    pub fn json(&self) -> Object {
+        Object::default()
+            .field("line", self.number)
+            .bytes("pattern", self.pattern)
+            .field("target", self.target)
+    }
 }
 
 /// What some editors write at the start of a file that is UTF-8.

@@ -3,6 +3,7 @@
 
 mod check;
 mod command_line;
+mod crossing;
 mod desk;
 mod faults;
 mod help;
@@ -10,10 +11,13 @@ mod input;
 mod json;
 mod list;
 mod load;
+mod meetings;
 mod natural;
 mod notes;
+mod pairs;
 mod progress;
 mod route;
+mod rows;
 mod shown;
 mod single;
 mod tables;
@@ -42,6 +46,9 @@ fn run(request: &Request, out: &mut impl Write) -> Result<Status, Trouble> {
         Command::Check { list } => check::run(list, options, out),
         Command::Route { list, subjects } => route::run(list, subjects, options, out),
         Command::Tree { list } => tree::run(list, options, out),
+        Command::Crossing { first, second } => {
+            crossing::run(first, second.as_deref(), options, out)
+        }
         Command::Parse { texts } => single::parse(texts, options, out),
         Command::Matches { pattern, subject } => single::matches(pattern, subject, options, out),
         Command::Texts { file } => texts::run(file, out),

@@ -3,10 +3,9 @@ use crate::command_line::Options;
 use crate::desk::{self, Desk, Order};
 use crate::input::{next_line, InputLine};
 use crate::json::{array, Object};
-use crate::list::Line;
 use crate::load::ListFile;
-use crate::progress::{ask_for, Progress};
-use crate::shown::{counted, grouped, shown};
+use crate::progress::{ask_for, Progress, Writes};
+use crate::shown::{counted, grouped, refused, shown};
 use crate::trouble::{Status, Trouble};
 use router::{Refusal, Resolution};
 use std::ffi::OsStr;
@@ -99,10 +98,7 @@ fn write_text(
     let text = shown(&subject.text);
     let order = match order {
         Ok(order) => order,
-        Err(refusal) => {
-            let (number, name) = (refusal.number(), refusal.name());
-            return writeln!(out, "{text}\n    refused ({number} {name}): {refusal}");
-        }
+        Err(refusal) => return writeln!(out, "{text}\n    {}", refused(refusal)),
     };
     let peak = if verbose {
         format!(" (peak {})", order.peak)
@@ -120,8 +116,7 @@ fn write_text(
 
 fn write_lines(out: &mut impl Write, order: &Order<'_, '_>, most: usize) -> io::Result<()> {
     for line in order.lines().take(most) {
-        let (number, pattern, target) = (line.number, shown(line.pattern), line.target);
-        writeln!(out, "    line {number:<5} {pattern}  -> {target}")?;
+        writeln!(out, "    {}  -> {}", line.text(), line.target)?;
     }
     let more = order.matched().saturating_sub(most);
     if more > 0 {
@@ -132,14 +127,6 @@ fn write_lines(out: &mut impl Write, order: &Order<'_, '_>, most: usize) -> io::
         )?;
     }
     Ok(())
-}
-
-fn line_json(line: &Line<'_>) -> String {
-    Object::default()
-        .field("line", line.number)
-        .bytes("pattern", line.pattern)
-        .field("target", line.target)
-        .end()
 }
 
 fn verdict_json(object: Object, subject: &[u8], order: &Order<'_, '_>) -> Object {
@@ -167,7 +154,7 @@ fn write_json(
     let object = match order {
         Ok(order) => verdict_json(object, &subject.text, order)
             .field("peak", order.peak)
-            .field("lines", array(order.lines().map(line_json))),
+            .field("lines", array(order.lines().map(|line| line.json().end()))),
         Err(refusal) => object.text("verdict", "Refused").refusal(refusal),
     };
     writeln!(out, "{}", object.end())
@@ -195,7 +182,7 @@ impl<W: Write> Answers<'_, '_, '_, W> {
     /// Subjects from standard input. Whoever waits for an answer gets it before more is read.
     fn answer_input(&mut self) -> Result<(), Trouble> {
         let mut reader = BufReader::with_capacity(BUFFER, io::stdin().lock());
-        let mut progress = Progress::of("subjects");
+        let mut progress = Progress::of("subjects", Writes::AsItGoes);
         ask_for("subjects");
         loop {
             if !reader.buffer().contains(&b'\n') {
@@ -212,7 +199,6 @@ impl<W: Write> Answers<'_, '_, '_, W> {
             self.answer(&line)?;
             progress.at(self.tally.total());
         }
-        progress.end();
         Ok(())
     }
 

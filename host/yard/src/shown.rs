@@ -1,4 +1,5 @@
 //! Texts and numbers for the screen.
+use router::Refusal;
 
 /// The most characters that are shown of one text.
 const MOST: usize = 200;
@@ -51,6 +52,24 @@ pub fn counted(number: usize, noun: &str) -> String {
     format!("{} {noun}{end}", grouped(number))
 }
 
+/// A refusal by number, name and sentence.
+pub fn refused(refusal: &Refusal) -> String {
+    format!(
+        "refused ({} {}): {refusal}",
+        refusal.number(),
+        refusal.name()
+    )
+}
+
+/// A word as it is typed to a shell: in quotes where the shell would make something else of it.
+pub fn typed(word: &str) -> String {
+    let plain = |c: char| c.is_alphanumeric() || "._-/".contains(c);
+    if !word.is_empty() && word.chars().all(plain) {
+        return word.into();
+    }
+    format!("'{}'", word.replace('\'', r"'\''"))
+}
+
 #[cfg(test)]
 mod tests {
     use super::*;
@@ -68,5 +87,21 @@ mod tests {
         let told = [0, 7, 999, 1000, 65537, 1048592].map(grouped);
         assert_eq!(told, ["0", "7", "999", "1,000", "65,537", "1,048,592"]);
         assert_eq!(counted(1, "line") + &counted(2, "line"), "1 line2 lines");
+    }
+
+    #[test]
+    fn words() {
+        let told = ["-", "lists/yard-2.list", "süd.list", "my list", "a'b", ""].map(typed);
+        assert_eq!(
+            told,
+            [
+                "-",
+                "lists/yard-2.list",
+                "süd.list",
+                "'my list'",
+                r"'a'\''b'",
+                "''"
+            ]
+        );
     }
 }

@@ -1,8 +1,8 @@
 //! `yard parse` and `yard matches`: single texts.
 use crate::command_line::Options;
 use crate::json::Object;
-use crate::shown::{counted, shown};
-use crate::trouble::{complain, Status, Trouble};
+use crate::shown::{counted, refused, shown};
+use crate::trouble::{tell_refused, Status, Trouble};
 use router::Refusal;
 use std::io::Write;
 
@@ -10,7 +10,7 @@ use std::io::Write;
 pub fn acceptance(parsed: &Result<usize, Refusal>) -> String {
     match parsed {
         Ok(tokens) => format!("accepted, {}", counted(*tokens, "token")),
-        Err(e) => format!("refused ({} {}): {e}", e.number(), e.name()),
+        Err(refusal) => refused(refusal),
     }
 }
 
@@ -70,17 +70,13 @@ pub fn matches(
     };
     if options.json {
         writeln!(out, "{}", object.end())?;
-    } else if let Err(e) = &matched {
+    } else if let Err(refusal) = &matched {
         let which = if router::parse(pattern).is_err() {
             "pattern"
         } else {
             "subject"
         };
-        complain(&format!(
-            "yard: the {which} is refused ({} {}): {e}\n",
-            e.number(),
-            e.name()
-        ));
+        tell_refused(which, refusal);
     } else {
         out.write_all(text.as_bytes())?;
     }

@@ -1,4 +1,6 @@
 //! How the command ends: its exit status, and what keeps it from its work.
+use crate::shown::refused;
+use router::Refusal;
 use std::fmt;
 use std::io::{self, ErrorKind, Write};
 use std::process::ExitCode;
@@ -6,11 +8,11 @@ use std::process::ExitCode;
 /// The exit status of a command that did its work.
 #[derive(Clone, Copy, Debug, PartialEq, Eq)]
 pub enum Status {
-    /// 0: the list is accepted, every subject is routed.
+    /// 0: the list is accepted, every subject is routed, no order meets two lines.
     Good,
-    /// 1: some subject is not routed, some text is refused, or the pattern does not match.
+    /// 1: some subject is not routed, some text is refused, the pattern does not match, or an order meets two lines.
     NotAll,
-    /// 2: the list is refused.
+    /// 2: the list or a pattern is refused.
     Refused,
 }
 
@@ -31,6 +33,8 @@ pub enum Trouble {
     Usage(String),
     /// A file cannot be used, for this reason.
     File { name: String, reason: String },
+    /// The router refuses what it accepted before. A proved one does not.
+    Router(Refusal),
     /// The output cannot be written.
     Output(io::Error),
 }
@@ -41,11 +45,18 @@ impl From<io::Error> for Trouble {
     }
 }
 
+impl From<Refusal> for Trouble {
+    fn from(refusal: Refusal) -> Trouble {
+        Trouble::Router(refusal)
+    }
+}
+
 impl fmt::Display for Trouble {
     fn fmt(&self, f: &mut fmt::Formatter<'_>) -> fmt::Result {
         match self {
             Trouble::Usage(fault) => write!(f, "{fault}\n`yard --help` shows the commands."),
             Trouble::File { name, reason } => write!(f, "{name}: {reason}"),
+            Trouble::Router(refusal) => f.write_str(&refused(refusal)),
             Trouble::Output(e) => write!(f, "the output cannot be written: {e}"),
         }
     }
@@ -59,6 +70,11 @@ impl Trouble {
             _ => complain(&format!("yard: {self}\n")),
         }
     }
+}
+
+/// Says on standard error that a text of the command line is refused.
+pub fn tell_refused(which: &str, refusal: &Refusal) {
+    complain(&format!("yard: the {which} is {}\n", refused(refusal)));
 }
 
 /// Writes to standard error; where that is closed there is nobody to tell.

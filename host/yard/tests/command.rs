@@ -20,6 +20,8 @@ fn help_and_version() {
         "check",
         "route",
         "tree",
+        "crossing",
+        "--patterns",
         "parse",
         "matches",
         "Exit status",

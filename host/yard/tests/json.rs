@@ -1,7 +1,7 @@
 //! What `--json` writes is JSON, and says what the text says.
 mod common;
 
-use common::{list_of, yard, yard_with_input};
+use common::{list_of, yard, yard_with_input, YARD_LIST};
 use std::collections::BTreeMap;
 use std::iter::Peekable;
 use std::str::Chars;
@@ -175,6 +175,8 @@ fn check() {
     assert_eq!(told.at("nodes").at("used").number(), 5);
     assert_eq!(told.at("worst_case").at("used").number(), 2);
     assert_eq!(told.at("worst_case").at("limit").number(), 1024);
+    assert_eq!(told.at("crossing").at("pairs").number(), 10);
+    assert_eq!(told.at("crossing").at("different_targets").number(), 10);
     let repeated = &told.at("repeated").array()[0];
     assert_eq!(
         repeated.at("lines"),
@@ -185,7 +187,7 @@ fn check() {
 #[test]
 fn a_refused_list() {
     let list = list_of("a..b 1\nc\n");
-    for command in ["check", "tree"] {
+    for command in ["check", "tree", "crossing"] {
         let said = yard(&[command, "--json", list.name()]);
         assert_eq!((said.status, said.err.as_str()), (2, ""));
         let told = &read(&said.out)[0];
@@ -261,6 +263,96 @@ fn tree() {
         a.at("children").array()[0].at("exact").numbers("line"),
         [1, 5]
     );
+}
+
+#[test]
+fn two_patterns() {
+    let crossing = |words: [&str; 2]| {
+        let said = yard(&["crossing", "--json", "--patterns", words[0], words[1]]);
+        assert_eq!(said.err, "");
+        (said.status, read(&said.out).remove(0))
+    };
+    let (status, told) = crossing(["a.*", "*.b"]);
+    assert_eq!((status, told.at("crossing")), (1, &Value::Flag(true)));
+    assert_eq!(told.at("first").text(), "a.*");
+    assert_eq!(told.at("second").text(), "*.b");
+    assert_eq!(told.at("order").text(), "a.b");
+    let (status, told) = crossing(["a.>", "a"]);
+    assert_eq!((status, told.at("crossing")), (0, &Value::Flag(false)));
+    for (words, which, name) in [
+        (["a..b", "a*"], "first", "EmptyToken"),
+        (["a", "a*"], "second", "IllegalChar"),
+    ] {
+        let (status, told) = crossing(words);
+        assert_eq!((status, told.at("refused").text()), (2, which));
+        assert_eq!(told.at("refusal").at("name").text(), name);
+    }
+}
+
+#[test]
+fn a_new_line() {
+    let list = list_of(ROW);
+    let said = yard(&["crossing", "--json", list.name(), "c.*"]);
+    assert_eq!((said.status, said.err.as_str()), (1, ""));
+    let told = read(&said.out);
+    let [all, b, end] = told.as_slice() else {
+        panic!("two lines and the end");
+    };
+    assert_eq!((all.at("line").number(), b.at("line").number()), (2, 3));
+    assert_eq!(b.at("pattern").text(), "*.b");
+    assert_eq!(b.at("target").number(), 3);
+    assert_eq!(all.at("order").text(), "c.x");
+    assert_eq!(b.at("order").text(), "c.b");
+    assert_eq!(end.at("pattern").text(), "c.*");
+    assert_eq!(end.at("entries").number(), 5);
+    assert_eq!(end.at("met").number(), 2);
+    let said = yard(&["crossing", "--json", list.name(), "c*"]);
+    assert_eq!((said.status, said.err.as_str()), (2, ""));
+    let refusal = read(&said.out).remove(0);
+    assert_eq!(refusal.at("refusal").at("name").text(), "IllegalChar");
+}
+
+#[test]
+fn pairs_of_lines() {
+    let list = list_of("a.* 7\nb 8\n*.a 7\na.b 9\n");
+    let said = yard(&["crossing", "--json", list.name()]);
+    assert_eq!((said.status, said.err.as_str()), (1, ""));
+    let told = read(&said.out);
+    let [same, different, end] = told.as_slice() else {
+        panic!("two pairs and the end");
+    };
+    assert_eq!(same.at("lines").numbers("line"), [1, 3]);
+    assert_eq!(same.at("lines").numbers("target"), [7, 7]);
+    assert_eq!(same.at("lines").array()[1].at("pattern").text(), "*.a");
+    assert_eq!(same.at("same_target"), &Value::Flag(true));
+    assert_eq!(same.at("order").text(), "a.a");
+    assert_eq!(different.at("lines").numbers("line"), [1, 4]);
+    assert_eq!(different.at("same_target"), &Value::Flag(false));
+    assert_eq!(end.at("list").text(), list.name());
+    assert_eq!(end.at("entries").number(), 4);
+    assert_eq!(end.at("pairs").number(), 2);
+    assert_eq!(end.at("different_targets").number(), 1);
+}
+
+#[test]
+fn every_order_shown_is_ambiguous() {
+    let mut pairs = read(&yard(&["crossing", "--json", YARD_LIST]).out);
+    let end = pairs.pop().expect("the counts");
+    assert_eq!(end.at("pairs").number(), pairs.len() as u64);
+    let orders: Vec<&str> = pairs.iter().map(|pair| pair.at("order").text()).collect();
+    let routed = yard_with_input(
+        &["route", "--json", YARD_LIST],
+        orders.join("\n").as_bytes(),
+    );
+    let routed = read(&routed.out);
+    assert_eq!((routed.len(), pairs.len()), (32, 32));
+    for (pair, order) in pairs.iter().zip(routed) {
+        assert_eq!(order.at("verdict").text(), "Ambiguous");
+        let matched = order.at("lines").numbers("line");
+        for line in pair.at("lines").numbers("line") {
+            assert!(matched.contains(&line), "{pair:?}");
+        }
+    }
 }
 
 #[test]

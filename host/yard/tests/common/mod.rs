@@ -5,6 +5,9 @@ use std::path::PathBuf;
 use std::process::{Command, Stdio};
 use std::sync::atomic::{AtomicUsize, Ordering};
 
+/// The example list of a whole yard.
+pub const YARD_LIST: &str = concat!(env!("CARGO_MANIFEST_DIR"), "/../../examples/yard.list");
+
 /// What a call of the command said.
 pub struct Said {
     pub status: i32,
