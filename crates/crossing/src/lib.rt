@@ -11,7 +11,8 @@ ghost use Rattle.subject_rules.specs.Answers.{answer, whenAccepted};
 ghost use Rattle.subject_rules.specs.Outputs.{outcome};
 ghost use Rattle.subject.specs.Answers.{parsed};
 ghost use Rattle.subject.specs.Reading.{tokensFrom};
-ghost use Rattle.crossing_rules.specs.Crossing.{plain, meet, followed, common, shownFor, showIn, crossingWith, crossing};
+ghost use Rattle.crossing_rules.specs.Crossing.{isWild, plain, meet, followed, common};
+ghost use Rattle.crossing_rules.specs.Crossing.{shownFor, showIn, crossingWith, crossing};
 ghost use Rattle.crossing.specs.Answers.{crossed};
 ghost use Rattle.crossing.specs.Writing.{reached, progress, endsAt};
 use subject::MAX_TEXT;
@@ -74,23 +75,30 @@ fn put(token: &[u8], at: usize, out: &mut [u8]) -> Reach
     Reach::Upto(end + 1)
 }
 
-// The same of a pattern's token, the filler in place of a wildcard.
+// Whether a token is a wildcard.
+fn is_wild(token: &[u8]) -> bool
+    ensures { λ r. ⌜ r ≡ isWild (now (token .entry)) ⌝ }
+{
+    if subject::is_star(token) {
+        return true;
+    }
+    subject::is_tail(token)
+}
+
+// A pattern's token and a dot behind it, the filler in place of a wildcard.
 fn put_plain(token: &[u8], filler: &[u8], at: usize, out: &mut [u8]) -> Reach
     requires { ⌜ at ≤ 4097 ⌝ }
     ensures { λ r. ⌜
         reached r (now (out .exit))
         ≡ progress (some (plain (now (filler .entry)) (now (token .entry)) ∷ [])) at (now (out .entry)) ⌝ }
 {
-    if subject::is_star(token) {
-        return put(filler, at, out);
-    }
-    if subject::is_tail(token) {
+    if is_wild(token) {
         return put(filler, at, out);
     }
     put(token, at, out)
 }
 
-// The same of what two patterns' tokens, neither of them `>`, have in common.
+// What two patterns' tokens, neither of them `>`, have in common, and a dot behind it.
 fn put_common(first: &[u8], second: &[u8], filler: &[u8], at: usize, out: &mut [u8]) -> Reach
     requires { ⌜ at ≤ 4097 ⌝ }
     ensures { λ r. ⌜

@@ -3,8 +3,8 @@ use borrow.Author.Needs.{needs}
 use Rattle.crossing.proofs.put_plain.Statement.{statement}
 use Rattle.crossing.proofs.put_plain.Tie as tie
 
-is-star-requires : tie.Need-is-star-requires
-is-star-requires c κs = search needs
+is-wild-requires : tie.Need-is-wild-requires
+is-wild-requires c κs = search needs
 
 put-requires : tie.Need-put-requires
 put-requires c κs = search needs
@@ -15,11 +15,8 @@ same-length c = search needs
 returns : tie.Need-returns
 returns c =
     let p = c .before .before in
-    let i = p .before .before in
-    rw (← i .before .is-star .ensures, i .if1 .taken) (p .put .ensures)
-
-is-tail-requires : tie.Need-is-tail-requires
-is-tail-requires c κs = search needs
+    let w = p .before .before in
+    rw (← w .before .is-wild .ensures, w .if1 .taken) (p .put .ensures)
 
 put-requires-2 : tie.Need-put-requires-2
 put-requires-2 c κs = search needs
@@ -30,35 +27,10 @@ same-length-2 c = search needs
 returns-2 : tie.Need-returns-2
 returns-2 c =
     let p = c .before .before in
-    let i = p .before .before in
-    let s = i .before .before in
-    rw (← s .before .is-star .ensures, s .if1 .left, ← i .before .is-tail .ensures, i .if2 .taken) (p .put2 .ensures)
-
-put-requires-3 : tie.Need-put-requires-3
-put-requires-3 c κs = search needs
-
-same-length-3 : tie.Need-same-length-3
-same-length-3 c = search needs
-
-returns-3 : tie.Need-returns-3
-returns-3 c =
-    let p = c .before .before in
-    let i = p .before .before in
-    let s = i .before .before in
-    rw (← s .before .is-star .ensures, s .if1 .left, ← i .before .is-tail .ensures, i .if2 .left) (p .put3 .ensures)
+    let w = p .before .before in
+    rw (← w .before .is-wild .ensures, w .if1 .left) (p .put2 .ensures)
 
 pub put-plain-spec : {M : Type 1} → statement M
 put-plain-spec =
     tie.close
-    (tie.spec
-    is-star-requires
-    put-requires
-    same-length
-    returns
-    is-tail-requires
-    put-requires-2
-    same-length-2
-    returns-2
-    put-requires-3
-    same-length-3
-    returns-3)
+    (tie.spec is-wild-requires put-requires same-length returns put-requires-2 same-length-2 returns-2)
