@@ -94,6 +94,23 @@ pub fn example_part(count: usize) -> Vec<Line> {
         .collect()
 }
 
+/// Each run of up to `most` of the tokens, the empty one first.
+pub fn runs<T: Copy>(tokens: &[T], most: usize) -> Vec<Vec<T>> {
+    let mut all = vec![vec![]];
+    let mut from = 0;
+    for _ in 0..most {
+        let end = all.len();
+        for index in from..end {
+            for &token in tokens {
+                let longer = [all[index].as_slice(), &[token]].concat();
+                all.push(longer);
+            }
+        }
+        from = end;
+    }
+    all
+}
+
 /// The run of ten tokens whose stars are the bits of a number.
 pub fn run_of_ten(number: usize) -> Vec<u8> {
     let token = |place: usize| if number >> place & 1 == 1 { "*" } else { "a" };

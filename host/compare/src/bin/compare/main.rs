@@ -10,6 +10,7 @@ mod byte_limit;
 mod cabinet;
 mod calls;
 mod copies;
+mod crossing;
 mod exhaustive;
 mod first_tables;
 mod hostile;
@@ -47,6 +48,7 @@ fn whole(tally: &mut Tally, random: &mut Random) {
     slot_limits::run(tally, random);
     first_tables::run(tally, random);
     words::run(tally, random);
+    crossing::run(tally);
 }
 
 /// Those and the random parts, two at a time. Each has a seed of its own, so that what it does does not hang on when it is its turn.

@@ -1,6 +1,6 @@
 //! The random parts. Each is made of turns, and each turn has a seed of its own, by which it can be made again.
 use crate::tally::{Family, Tally};
-use crate::{byte_limit, calls, hostile, kinds, limits, states, texts};
+use crate::{byte_limit, calls, crossing, hostile, kinds, limits, states, texts};
 use compare::random::Random;
 use std::time::{Duration, Instant};
 
@@ -16,7 +16,7 @@ pub struct Part {
 }
 
 /// How many there are.
-pub const COUNT: usize = 10;
+pub const COUNT: usize = 11;
 
 static PARTS: [Part; COUNT] = [
     Part {
@@ -98,6 +98,14 @@ static PARTS: [Part; COUNT] = [
         turns: 600,
         share: 100,
         turn: byte_limit::turn,
+    },
+    Part {
+        name: "crossing",
+        about: "crossings of patterns near one subject, of about 4,096 bytes, or damaged",
+        family: Family::Crossings,
+        turns: 30_000,
+        share: 200,
+        turn: crossing::turn,
     },
 ];
 

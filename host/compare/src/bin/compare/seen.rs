@@ -1,6 +1,8 @@
 //! What the inputs must bring up, each at least once: a kind that never came up means that the comparisons miss it.
 use crate::theirs::Scope;
 use compare::model_cache::{Stage, Way};
+use compare::model_crossing::Due;
+use compare::original::MAX_TEXT;
 use router::limits::{MAX_CAPACITY, SLOT_BYTES};
 use std::collections::BTreeMap;
 
@@ -23,6 +25,20 @@ const ANSWERS: [(&str, &[u64]); 11] = [
         "resolve_single_home_cached",
         &[0, 1, 2, 3, 5, 6, 7, 8, 9, 17, 18, 19, 21],
     ),
+];
+
+/// Crossings that one or the other pattern refuses, and those that neither does.
+pub const CROSSING_REFUSED: [&str; 2] = [
+    "crossing, refused by the first pattern",
+    "crossing, refused by the second pattern",
+];
+pub const CROSSING: &str = "crossing of accepted patterns";
+
+/// The answers that crossings must give. No pattern is refused as 7.
+const CROSSING_ANSWERS: [(&str, &[u64]); 3] = [
+    (CROSSING_REFUSED[0], &[1, 2, 3, 4, 5, 6, 8, 9]),
+    (CROSSING_REFUSED[1], &[1, 2, 3, 4, 5, 6, 8, 9]),
+    (CROSSING, &[0, 21]),
 ];
 
 /// What else must happen, by name.
@@ -85,6 +101,26 @@ const WAYS: [&str; 27] = [
     NOT_COMPARED,
 ];
 
+pub const SHOWN: &str = "crossings with a subject shown";
+pub const LONGEST_SHOWN: &str = "the same of 4,096 bytes";
+pub const APART: &str = "crossings with none, as no subject of any length matches both";
+pub const NO_OUTPUT: &str = "the same with an output of no bytes";
+pub const TOO_LONG: &str = "crossings with none, as a shortest subject has over 4,096 bytes";
+pub const ONE_TOO_LONG: &str = "the same of 4,097 bytes";
+pub const BOTH_REFUSED: &str = "crossings of two refused patterns";
+pub const TRIED: &str = "pairs of patterns with all short subjects tried";
+
+const CROSSING_WAYS: [&str; 8] = [
+    SHOWN,
+    LONGEST_SHOWN,
+    APART,
+    NO_OUTPUT,
+    TOO_LONG,
+    ONE_TOO_LONG,
+    BOTH_REFUSED,
+    TRIED,
+];
+
 /// Verdicts by kind, in the order of their numbers.
 pub const VERDICTS: [&str; 3] = [NO_STREAM, ROUTED, AMBIGUOUS];
 
@@ -97,9 +133,13 @@ pub fn scope(scope: Scope) -> &'static str {
     }
 }
 
+/// A name, if it is so.
+fn also(name: &'static str, holds: bool) -> Option<&'static str> {
+    holds.then_some(name)
+}
+
 /// The names of what a resolve came to.
 pub fn ways(way: Way, subject: &[u8], capacity: u64) -> Vec<&'static str> {
-    let also = |name, holds: bool| holds.then_some(name);
     let [first, second, third] = match way {
         Way::Refused(Stage::Subject | Stage::Cache) => [None; 3],
         Way::Refused(Stage::Counts { would_hit }) => {
@@ -118,6 +158,18 @@ pub fn ways(way: Way, subject: &[u8], capacity: u64) -> Vec<&'static str> {
         Way::NotKept => [Some(LONG_LIST), None, None],
     };
     [first, second, third].into_iter().flatten().collect()
+}
+
+/// The names of what a crossing with an output of so many bytes came to.
+pub fn crossing_ways(due: &Due, length: usize) -> Vec<&'static str> {
+    let [first, second] = match due {
+        Due::Refused(..) => [None; 2],
+        Due::Apart => [Some(APART), also(NO_OUTPUT, length == 0)],
+        Due::TooLong(bytes) => [Some(TOO_LONG), also(ONE_TOO_LONG, *bytes == MAX_TEXT + 1)],
+        Due::Shown(subject) if subject.len() > length => [None; 2],
+        Due::Shown(subject) => [Some(SHOWN), also(LONGEST_SHOWN, subject.len() == MAX_TEXT)],
+    };
+    [first, second].into_iter().flatten().collect()
 }
 
 #[derive(Default)]
@@ -156,11 +208,19 @@ impl Seen {
         self.answers.values().sum()
     }
 
-    /// Prints every count. What never came up, though it must.
-    pub fn report(&self) -> Vec<String> {
+    /// Prints the counts of some calls, by answer and by what else must happen. What never came up, though it must.
+    fn report_on(
+        &self,
+        about: &str,
+        answers: &[(&'static str, &[u64])],
+        ways: &[&'static str],
+    ) -> Vec<String> {
         let mut missing = Vec::new();
-        println!("calls on snapshots and caches: {}", self.calls());
-        for (call, numbers) in ANSWERS {
+        let own = |call: &str| answers.iter().any(|(own, _)| *own == call);
+        let counts = self.answers.iter().filter(|((call, _), _)| own(call));
+        let calls: u64 = counts.map(|(_, count)| count).sum();
+        println!("{about}: {calls}");
+        for &(call, numbers) in answers {
             let counts: BTreeMap<u64, u64> = numbers
                 .iter()
                 .map(|&number| (number, self.answered(call, number)))
@@ -169,13 +229,21 @@ impl Seen {
             let never = numbers.iter().filter(|number| counts[number] == 0);
             missing.extend(never.map(|number| format!("{call} answered by {number}")));
         }
-        for way in WAYS {
+        for way in ways {
             let count = self.ways.get(way).copied().unwrap_or(0);
             println!("{count:>12} {way}");
             if count == 0 {
-                missing.push(way.into());
+                missing.push(way.to_string());
             }
         }
         missing
+    }
+
+    /// Prints every count. What never came up, though it must.
+    pub fn report(&self) -> Vec<String> {
+        let calls = self.report_on("calls on snapshots and caches", &ANSWERS, &WAYS);
+        let about = "crossings of two patterns";
+        let crossings = self.report_on(about, &CROSSING_ANSWERS, &CROSSING_WAYS);
+        [calls, crossings].concat()
     }
 }

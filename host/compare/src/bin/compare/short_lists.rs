@@ -1,25 +1,8 @@
 //! Every short list of short patterns, with every short subject.
 use crate::tables;
 use crate::tally::{Family, Tally};
-use compare::lists::Line;
+use compare::lists::{runs, Line};
 use compare::random::Random;
-
-/// Each run of up to `most` of the tokens, the empty one first.
-fn runs<'a>(tokens: &[&'a str], most: usize) -> Vec<Vec<&'a str>> {
-    let mut all = vec![vec![]];
-    let mut from = 0;
-    for _ in 0..most {
-        let end = all.len();
-        for index in from..end {
-            for &token in tokens {
-                let longer = [all[index].as_slice(), &[token]].concat();
-                all.push(longer);
-            }
-        }
-        from = end;
-    }
-    all
-}
 
 fn texts(runs: &[Vec<&str>]) -> Vec<Vec<u8>> {
     let accepted = runs.iter().filter(|run| !run.is_empty());
@@ -27,7 +10,7 @@ fn texts(runs: &[Vec<&str>]) -> Vec<Vec<u8>> {
 }
 
 /// Each pattern of up to `most` tokens out of some, with `>` as the last too.
-fn patterns(tokens: &[&str], most: usize) -> Vec<Vec<u8>> {
+pub fn patterns(tokens: &[&str], most: usize) -> Vec<Vec<u8>> {
     let mut all = runs(tokens, most);
     let ended = runs(tokens, most - 1).into_iter();
     all.extend(ended.map(|run| [run.as_slice(), &[">"]].concat()));

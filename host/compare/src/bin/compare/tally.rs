@@ -20,6 +20,7 @@ pub enum Family {
     Texts,
     Tables,
     Calls,
+    Crossings,
 }
 
 #[derive(Default)]
@@ -27,7 +28,7 @@ pub struct Tally {
     total: u64,
     reported: u64,
     /// Comparisons of each family.
-    families: [u64; 3],
+    families: [u64; 4],
     answers: BTreeMap<u64, u64>,
     /// Matches of a pattern that were answered by no and by yes.
     verdicts: [u64; 2],
@@ -36,7 +37,7 @@ pub struct Tally {
     pub matches: u64,
     pub largest_table: u64,
     pub largest_peak: u64,
-    /// Calls on snapshots and caches.
+    /// Calls on snapshots and caches, and crossings.
     pub seen: Seen,
     /// The random part that is being made, and the seed of its turn.
     turn: Option<(&'static str, u64)>,
@@ -51,7 +52,7 @@ fn differs<T: Debug>(turn: Option<(&str, u64)>, call: &str, inputs: &str, ours: 
     exit(1)
 }
 
-fn shown(texts: &[&[u8]]) -> String {
+pub fn shown(texts: &[&[u8]]) -> String {
     let line = |text: &&[u8]| format!("  on {text:02x?} \"{}\"\n", text.escape_ascii());
     texts.iter().map(line).collect()
 }
@@ -103,7 +104,7 @@ impl Tally {
         *self.answers.entry(answer.number).or_default() += 1;
     }
 
-    /// A call on a snapshot or a cache gave an answer of this number.
+    /// A call on a snapshot or a cache, or a crossing, gave an answer of this number.
     pub fn called(&mut self, call: &'static str, number: u64) {
         *self.answers.entry(number).or_default() += 1;
         self.seen.answer(call, number);
@@ -207,10 +208,11 @@ impl Tally {
 
     /// Says what was met in all. An answer that never came up means that the inputs miss a rule, and fails.
     pub fn close(&self, took: Duration) -> ExitCode {
-        let [texts, tables, calls] = self.families;
+        let [texts, tables, calls, crossings] = self.families;
         println!("{texts:>12} comparisons of texts and matches of patterns in all");
         println!("{tables:>12} comparisons of lists, tables and matches on them in all");
         println!("{calls:>12} comparisons of calls on snapshots and caches in all");
+        println!("{crossings:>12} comparisons of crossings of two patterns in all");
         let [no, yes] = self.verdicts;
         println!("answers by number: {:?}", self.answers);
         println!("matches of a pattern: {yes} yes, {no} no");

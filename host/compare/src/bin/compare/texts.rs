@@ -3,7 +3,7 @@ use crate::tally::Tally;
 use compare::original::MAX_TEXT;
 use compare::random::Random;
 
-const WORDS: [&str; 12] = [
+pub const WORDS: [&str; 12] = [
     "yard", "north", "points", "17", "set", "a", "b", " ", "ß", "Gleis-Ä", "轨道", "🚂",
 ];
 
@@ -31,7 +31,7 @@ fn token_count(random: &mut Random) -> usize {
 }
 
 /// Tokens with dots between them. In a pattern some are `*`, and the last, rarely another, may be `>`.
-fn tokens(random: &mut Random, wild: bool) -> Vec<u8> {
+pub fn tokens(random: &mut Random, wild: bool) -> Vec<u8> {
     let count = token_count(random);
     let mut text = Vec::new();
     for index in 0..count {
@@ -62,7 +62,7 @@ fn lengthen(random: &mut Random, text: &mut Vec<u8>) {
 }
 
 /// Cuts, overwrites, inserts or doubles at some place.
-fn damage(random: &mut Random, text: &mut Vec<u8>) {
+pub fn damage(random: &mut Random, text: &mut Vec<u8>) {
     let at = random.below(text.len() + 1);
     let end = at + random.below(text.len() - at + 1).min(4);
     match random.below(4) {
@@ -73,7 +73,7 @@ fn damage(random: &mut Random, text: &mut Vec<u8>) {
     }
 }
 
-fn any_text(random: &mut Random, wild: bool) -> Vec<u8> {
+pub fn any_text(random: &mut Random, wild: bool) -> Vec<u8> {
     let mut text = tokens(random, wild);
     if random.once_in(16) {
         lengthen(random, &mut text);

@@ -15,7 +15,7 @@ const SHORT: usize = 24;
 const ODD_LENGTH: usize = 17;
 
 /// Tokens are made of the first so many of these.
-const LETTERS: &[u8; MOST] = b"abcdefghijklmnopqrstuvwxyzABCDEFGHIJKLMN";
+pub const LETTERS: &[u8; MOST] = b"abcdefghijklmnopqrstuvwxyzABCDEFGHIJKLMN";
 
 /// What stands beside dots: a letter, the byte behind the dot's, and the least and the largest that are legal in ASCII.
 const OTHERS: &[u8] = b"a/ ~";
