@@ -3,7 +3,9 @@
 //! bench [ROUNDS]
 //! Each call counts by its fastest of so many rounds of about a millisecond. The lines are those of a Markdown table.
 //! Both sides get bytes and check that they are UTF-8; under `known text` the original gets what is known to be UTF-8.
+//! The original has no crossing: these rows are a table of their own, beside the model written out in Rust, which parses with the original.
 mod caches;
+mod crossings;
 mod row;
 mod snapshots;
 mod tables;
@@ -39,7 +41,7 @@ fn main() {
         .and_then(|word| word.parse().ok())
         .unwrap_or(ROUNDS);
     let [small, large] = [lists::example_part(200), lists::example()];
-    row::heading();
+    row::heading(row::ORIGINAL);
     texts::rows(rounds, &large);
     let matched = subjects(&small, SUBJECTS);
     for lines in [&small, &large] {
@@ -56,4 +58,5 @@ fn main() {
     caches::rows(rounds, &large_yard, &matched, &many);
     let long_lists = Yard::new(&lists::yard(&mut Random::new(1_600), 1_600));
     caches::long_lists(rounds, &long_lists, &matched);
+    crossings::rows(rounds, &large);
 }

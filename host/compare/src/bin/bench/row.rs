@@ -12,6 +12,10 @@ const FIRST_PASSES: usize = 3;
 const NAME: usize = 48;
 const TIME: usize = 10;
 
+/// What stands beside the router in a table: the original, or, for a call that it does not have, the model written out in Rust.
+pub const ORIGINAL: &[&str] = &["original", "known text"];
+pub const MODEL: &[&str] = &["model"];
+
 /// A call on an input, timed. What it gives is only there to be computed.
 pub type Call<'a, T> = &'a dyn Fn(&T) -> u64;
 
@@ -47,9 +51,20 @@ impl Plan {
     }
 }
 
-/// One line: the time of the first call, ours, and of each other with its ratio. The calls take turns, and each counts by its fastest rounds: where a pass
-/// over the inputs takes long, by the fastest for each part of them. How many passes each call has made in all.
+/// One line beside the original: the time of the first call, ours, and of each other with its ratio. How many passes each call has made in all.
 pub fn row<T>(name: &str, rounds: usize, inputs: &[T], calls: &[Call<T>]) -> usize {
+    row_beside(ORIGINAL, name, rounds, inputs, calls)
+}
+
+/// One line of a table. The calls take turns, and each counts by its fastest rounds: where a pass over the inputs takes long, by the fastest for each part of
+/// them. How many passes each call has made in all.
+pub fn row_beside<T>(
+    beside: &[&str],
+    name: &str,
+    rounds: usize,
+    inputs: &[T],
+    calls: &[Call<T>],
+) -> usize {
     let Plan { part, passes } = Plan::new(inputs, calls);
     let parts: Vec<&[T]> = inputs.chunks(part).collect();
     let mut fastest = vec![vec![Duration::MAX; parts.len()]; calls.len()];
@@ -64,7 +79,7 @@ pub fn row<T>(name: &str, rounds: usize, inputs: &[T], calls: &[Call<T>]) -> usi
     let times = fastest
         .iter()
         .map(|parts| nanoseconds(sum(parts), passes * inputs.len()));
-    print(name, &times.collect::<Vec<f64>>());
+    print(beside, name, &times.collect::<Vec<f64>>());
     FIRST_PASSES + rounds * passes
 }
 
@@ -85,28 +100,30 @@ pub fn lines(count: usize) -> String {
 fn shown(nanoseconds: f64) -> String {
     if nanoseconds < 9_999.5 {
         format!("{nanoseconds:.0} ns")
-    } else {
+    } else if nanoseconds < 9_999_950.0 {
         format!("{:.1} us", nanoseconds / 1e3)
+    } else {
+        format!("{:.1} ms", nanoseconds / 1e6)
     }
 }
 
 /// What stands in the columns, as the head of a Markdown table.
-pub fn heading() {
-    println!(
-        "| {:NAME$} | {:>TIME$} | {:>TIME$} | ratio | {:>TIME$} | ratio |",
-        "call", "router", "original", "known text"
-    );
-    println!("|---|---|---|---|---|---|");
+pub fn heading(beside: &[&str]) {
+    print!("| {:NAME$} | {:>TIME$} |", "call", "router");
+    for column in beside {
+        print!(" {column:>TIME$} | ratio |");
+    }
+    println!("\n|{}", "---|".repeat(2 + 2 * beside.len()));
 }
 
 /// The line of these times, ours first.
-pub fn print(name: &str, times: &[f64]) {
+pub fn print(beside: &[&str], name: &str, times: &[f64]) {
     let ours = times[0];
     print!("| {name:NAME$} | {:>TIME$} |", shown(ours));
     for &theirs in &times[1..] {
         print!(" {:>TIME$} | {:5.2} |", shown(theirs), theirs / ours);
     }
-    if times.len() == 2 {
+    for _ in times.len()..=beside.len() {
         print!(" {:TIME$} |       |", "");
     }
     println!();

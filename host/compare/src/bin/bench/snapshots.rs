@@ -1,5 +1,5 @@
 //! The rows on a snapshot with a yard's table.
-use crate::row::{lines, nanoseconds, print, row};
+use crate::row::{lines, nanoseconds, print, row, ORIGINAL};
 use crate::yard::{known, Ours, Yard};
 use compare::original_calls;
 use oracle::binding;
@@ -87,6 +87,7 @@ pub fn store(rounds: usize, yard: &Yard) {
         }
     }
     print(
+        ORIGINAL,
         &format!("store of the table of {}", lines(yard.count)),
         &fastest.map(|round| nanoseconds(round, STORES)),
     );
