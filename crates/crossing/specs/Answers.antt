@@ -1,5 +1,5 @@
--- The numbers and values of the answers: 0 and 1 with the subject's length, 0 and 0 where there is none; 1 to 9; 21 with
--- the length needed.
+-- The numbers and values of the answers: 0 and 1 with the subject's length, 0 and 0 where there is none; 1 to 9;
+-- 21 with the length needed.
 use mathlib.Core.List.{[], _∷_}
 use Rattle.subject_rules.specs.Answers.{Answer, answer}
 use Rattle.subject.specs.Answers.{refusal}

@@ -1,4 +1,4 @@
-// Crossing patterns: a subject that two patterns both match, or that there is none. Request 2026-01; not in the original.
+// Crossing patterns: a subject that two patterns both match, or that there is none. Not in the original.
 // Both patterns are gone through twice: once to learn how long the subject is, then to write it.
 ghost use mathlib.Core.Path.{_≡_};
 ghost use mathlib.Core.List.{[], _∷_, map};

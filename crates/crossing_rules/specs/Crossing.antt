@@ -1,4 +1,4 @@
--- Crossing patterns (2026-01): the subject that two patterns both match, or that there is none, and the call `crossing`.
+-- Crossing patterns (2026-01): a subject that two patterns both match, or that there is none; the call `crossing`.
 -- `filler` is the token for a position that is wild in both patterns, `x` in the call.
 use Prim.Native.Nat.{ℕ}
 use mathlib.Core.Bool.{Bool, true}
@@ -20,7 +20,8 @@ isWild t = or (isStar t) (isTail t)
 abbrev pub plain : List ℕ → List ℕ → List ℕ
 plain filler t = pick (isWild t) filler t
 
--- the token that matches two tokens, neither of them `>`: a literal, the filler if both are `*`; none if two literals differ
+-- the token that two tokens, neither of them `>`, both match: a literal, the filler if both are `*`; none if two
+-- literals differ
 abbrev pub meet : List ℕ → List ℕ → List ℕ → Option (List ℕ)
 meet filler p q =
     pick (isStar p) (some (plain filler q))

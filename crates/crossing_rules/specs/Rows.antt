@@ -19,7 +19,7 @@ unfoldable pub rows : List Row
 rows =
     -- a subject that both match
     row "a.*" "*.b" "-----" (answer 0 (1 ∷ 3 ∷ [])) "a.b--"
-    ∷ row "yard.*.points.>" "yard.north.*.*.set" "------------------------" (answer 0 (1 ∷ 23 ∷ [])) "yard.north.points.x.set-"
+    ∷ row "yard.*.points.>" "yard.n.*.*.set" "--------------------" (answer 0 (1 ∷ 19 ∷ [])) "yard.n.points.x.set-"
     ∷ row "a.b" "a.b" "---" (answer 0 (1 ∷ 3 ∷ [])) "a.b"
     -- a position that is wild in both
     ∷ row "*" "*" "--" (answer 0 (1 ∷ 1 ∷ [])) "x-"
