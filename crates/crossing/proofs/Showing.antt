@@ -12,13 +12,13 @@ use lib.ListN.{length, length-append, length-take, take, drop, drop-of-length-le
 use lib.Seq.{set-out, sets, length-sets, sets-eq}
 use borrow.Author.Tests.{lt-ltb, le-ltb}
 use Rattle.subject_rules.specs.Choice.{pick}
-use Rattle.subject_rules.specs.Text.{tokens}
+use Rattle.subject_rules.specs.Text.{tokens, joined}
 use Rattle.subject_rules.specs.Answers.{answer}
 use Rattle.subject_rules.specs.Outputs.{outcome}
 use Rattle.subject_rules.proofs.Depths.{tokens-some}
 use Rattle.subject_rules.proofs.Stores.{sets-append}
 use Rattle.crossing_rules.proofs.Common.{If, common-some}
-use Rattle.crossing_rules.specs.Crossing.{common, joined, ofTokens, shownFor, showIn}
+use Rattle.crossing_rules.specs.Crossing.{common, ofTokens, shownFor, showIn}
 use Rattle.crossing.specs.Writing.{Progress, upto, nowhere, reached, dotted, progress}
 use Rattle.crossing.specs.declared.Reach.{Reach}
 use Rattle.crossing.specs.declared.Reach.the-variants.{Upto, Nowhere}

@@ -10,7 +10,7 @@ use lib.Dec.{ltb}
 use lib.ListN.{length}
 use borrow.Author.Tests.{ltb-true, ltb-false, lt-ltb, le-ltb}
 use Rattle.subject_rules.specs.Choice.{pick}
-use Rattle.subject_rules.specs.Text.{tokens}
+use Rattle.subject_rules.specs.Text.{tokens, joined}
 use Rattle.subject_rules.specs.Utf8.{sequence, firstBad}
 use Rattle.subject_rules.specs.Answers.{Answer, answer, said, whenAccepted}
 use Rattle.subject_rules.specs.Grammar.{grammar}
@@ -18,10 +18,10 @@ use Rattle.subject_rules.specs.Matching.{matchTokens, matching}
 use Rattle.subject_rules.specs.Outputs.{Outcome, outcome, over, ifParsed}
 use Rattle.subject_rules.proofs.Depths.{number, passed, accepted-values, accepted-depth, tokens-some}
 use Rattle.sublist_tree.specs.Lists.{All}
-use Rattle.crossing_rules.specs.Crossing.{common, joined, ofTokens, shownFor, showIn, crossingWith, crossing}
+use Rattle.crossing_rules.specs.Crossing.{common, ofTokens, shownFor, showIn, crossingWith, crossing}
 use Rattle.crossing_rules.specs.Asked.{BothMatch, Shown, Apart, Accepts, Asked, firstRefused, secondRefused, apart, outShort, shown}
 use Rattle.crossing_rules.proofs.Texts.{joined-tokens, size, size-joined}
-use Rattle.crossing_rules.proofs.Legal.{Literal, literals-tokens, literals-accepted, Pattern, accepted-pattern, accepted-filled}
+use Rattle.crossing_rules.proofs.Legal.{Literal, literals-last, legal-tokens, legal-accepted, Pattern, accepted-pattern, accepted-filled}
 use Rattle.crossing_rules.proofs.Common.{Is, if-is, common-all, common-most, common-some, common-matched}
 use Rattle.crossing_rules.proofs.Shortest.{FilledAt, common-short, common-filled, common-only}
 
@@ -89,11 +89,11 @@ module _ (filler first second : List ℕ) (f : Accepts first) (s : Accepts secon
         (common-most filler 32 (tokens first) (tokens second) (accepted-depth true first _ f) (accepted-depth true second _ s)) e
 
     its-tokens : tokens (joined ts) ≡ ts
-    its-tokens = literals-tokens ts literals some-token
+    its-tokens = legal-tokens false ts literals some-token
 
     -- the grammar accepts it
     joined-accepted : grammar false (joined ts) ≡ answer 0 (length (tokens (joined ts)) ∷ [])
-    joined-accepted = rw its-tokens (literals-accepted ts literals some-token few short)
+    joined-accepted = rw its-tokens (legal-accepted false ts literals some-token (literals-last ts literals) few short)
 
     -- and both match it
     joined-matched : BothMatch first second (joined ts)

@@ -1,4 +1,4 @@
--- Tokens that a subject may have, and the grammar of what is put together of them.
+-- Tokens that a subject or a pattern may have, and the grammar of what is put together of them.
 use Prim.Native.Nat.{ℕ, suc, _+_, _≤_}
 use native.Mathlib.Omega.{arith}
 use mathlib.Core.Path.{_≡_, refl, ap}
@@ -9,14 +9,14 @@ use lib.Dec.{eqb, ltb}
 use lib.ListN.{length, length-append}
 use borrow.Author.Tests.{ne-eqb}
 use Rattle.subject_rules.specs.Choice.{pick, or}
-use Rattle.subject_rules.specs.Text.{tokens, isStar, isTail}
+use Rattle.subject_rules.specs.Text.{tokens, joined, isStar, isTail}
 use Rattle.subject_rules.specs.Answers.{Answer, answer}
 use Rattle.subject_rules.specs.Grammar.{badChar, firstOf, badChars, badToken, tailAt, check, grammar}
 use Rattle.subject_rules.proofs.Depths.{number, not-refused, bad-token, under, passed, passes}
 use Rattle.subject_rules.proofs.Pieces.{NoDot}
 use Rattle.sublist_tree.specs.Lists.{All}
 use Rattle.sublist_tree.proofs.Bytes.{All-map}
-use Rattle.crossing_rules.specs.Crossing.{isWild, joined}
+use Rattle.crossing_rules.specs.Crossing.{isWild}
 use Rattle.crossing_rules.proofs.Texts.{Utf8, tokens-joined, no-dots, utf8-tokens, utf8-joined}
 
 -- ---- refusals do not depend on the index that they name
@@ -53,13 +53,16 @@ token-anywhere wild i (b ∷ bs) e j = go (isWild (b ∷ bs)) wild e
     go true false e = let z : _≡_ {A = ℕ} 0 1 = cc in absurd (omega arith)
     go false v e = chars-anywhere i j (b ∷ bs) e
 
--- ---- tokens of a subject
+-- ---- tokens of a text
 
--- a token that a subject may have anywhere
-pub record Literal (t : List ℕ) : Type 0 where
+-- a token that a subject may have anywhere or, where `wild`, a pattern
+pub record Legal (wild : Bool) (t : List ℕ) : Type 0 where
   pub utf8 : Utf8 t
   pub undotted : NoDot t
-  pub unbarred : Unbarred false t
+  pub unbarred : Unbarred wild t
+
+abbrev pub Literal : List ℕ → Type 0
+Literal = Legal false
 
 -- it has a byte and is no wildcard
 pub unbarred-filled : (wild : Bool) (t : List ℕ) → Unbarred wild t → 1 ≤ length t
@@ -86,41 +89,54 @@ not-tail t e = go (isStar t) e
     go true e = let z : _≡_ {A = ℕ} 0 1 = cc in absurd (omega arith)
     go false e = e
 
--- ---- what is put together of such tokens is accepted
-
-check-literals : (index : ℕ) (ts : List (List ℕ)) → All Literal ts → index + length ts ≤ 32 → check false none index ts ≡ answer 0 ((index + length ts) ∷ [])
-check-literals index [] a h = let z : index + 0 ≡ index = omega arith in rw z
-check-literals index (t ∷ ts) a h =
-    let tail = not-tail t (unbarred-plain t (a .0 .unbarred)) in
-    let n : index + suc (length ts) ≡ index + 1 + length ts = omega arith in
-    rw (ne-eqb index 32 (λ e. omega arith), a .0 .unbarred index, tail, n) (check-literals (index + 1) ts (a .1) (omega arith))
-
-joined-filled : (ts : List (List ℕ)) → 1 ≤ length ts → All Literal ts → 1 ≤ length (joined ts)
-joined-filled [] h a = absurd (omega arith)
-joined-filled (t ∷ []) h a = unbarred-filled false t (a .0 .unbarred)
-joined-filled (t ∷ (u ∷ ts)) h a = omega (arith, length-append t (0x2e ∷ joined (u ∷ ts)))
-
-module _ (ts : List (List ℕ)) (a : All Literal ts) (some′ : 1 ≤ length ts) where
-  -- its tokens are these
-  pub literals-tokens : tokens (joined ts) ≡ ts
-  literals-tokens = tokens-joined ts (All-map Literal NoDot ts (λ t l. l .undotted) a) some′
-
-  pub literals-accepted : length ts ≤ 32 → length (joined ts) ≤ 4096 → grammar false (joined ts) ≡ answer 0 (length ts ∷ [])
-  literals-accepted few short =
-      let z : 0 + length ts ≡ length ts = omega arith in
-      passes false (joined ts) (length ts ∷ []) (record {
-        short = short;
-        utf8 = utf8-joined ts (All-map Literal Utf8 ts (λ t l. l .utf8) a);
-        filled = joined-filled ts some′ a;
-        checks = rw literals-tokens (rw z at (check-literals 0 ts a (omega arith)));
-      })
-
--- ---- what the grammar says of the tokens of an accepted text
-
 -- nothing stands behind a `>`
 abbrev pub TailLast : List (List ℕ) → Type 0
 TailLast [] = Unit {0}
 TailLast (t ∷ ts) = (isTail t ≡ true → ts ≡ []) × TailLast ts
+
+-- in a subject there is none
+pub literals-last : (ts : List (List ℕ)) → All Literal ts → TailLast ts
+literals-last [] a = tt
+literals-last (t ∷ ts) a =
+    ((λ e. let n = not-tail t (unbarred-plain t (a .0 .unbarred)) in let z : _≡_ {A = ℕ} 0 1 = cc in absurd (omega arith)), literals-last ts (a .1))
+
+-- ---- what is put together of such tokens is accepted
+
+-- what is behind a token that may be `>`
+check-behind : (wild b : Bool) (index : ℕ) (ts : List (List ℕ)) (n : ℕ) → (b ≡ true → ts ≡ []) → n ≡ index + length ts
+    → check wild none index ts ≡ answer 0 (n ∷ []) → (at : ℕ) → check wild (tailAt b at) index ts ≡ answer 0 (n ∷ [])
+check-behind wild true index ts n last e c at = let z : index + 0 ≡ index = omega arith in rw (e, last refl, z)
+check-behind wild false index ts n last e c at = c
+
+check-legal : (wild : Bool) (index : ℕ) (ts : List (List ℕ)) → All (Legal wild) ts → TailLast ts → index + length ts ≤ 32
+    → check wild none index ts ≡ answer 0 ((index + length ts) ∷ [])
+check-legal wild index [] a l h = let z : index + 0 ≡ index = omega arith in rw z
+check-legal wild index (t ∷ ts) a l h =
+    let n : index + suc (length ts) ≡ index + 1 + length ts = omega arith in
+    rw (ne-eqb index 32 (λ e. omega arith), a .0 .unbarred index, n)
+    (check-behind wild (isTail t) (index + 1) ts (index + 1 + length ts) (l .0) refl (check-legal wild (index + 1) ts (a .1) (l .1) (omega arith)) index)
+
+joined-filled : (wild : Bool) (ts : List (List ℕ)) → 1 ≤ length ts → All (Legal wild) ts → 1 ≤ length (joined ts)
+joined-filled wild [] h a = absurd (omega arith)
+joined-filled wild (t ∷ []) h a = unbarred-filled wild t (a .0 .unbarred)
+joined-filled wild (t ∷ (u ∷ ts)) h a = omega (arith, length-append t (0x2e ∷ joined (u ∷ ts)))
+
+module _ (wild : Bool) (ts : List (List ℕ)) (a : All (Legal wild) ts) (some′ : 1 ≤ length ts) where
+  -- its tokens are these
+  pub legal-tokens : tokens (joined ts) ≡ ts
+  legal-tokens = tokens-joined ts (All-map (Legal wild) NoDot ts (λ t l. l .undotted) a) some′
+
+  pub legal-accepted : TailLast ts → length ts ≤ 32 → length (joined ts) ≤ 4096 → grammar wild (joined ts) ≡ answer 0 (length ts ∷ [])
+  legal-accepted last few short =
+      let z : 0 + length ts ≡ length ts = omega arith in
+      passes wild (joined ts) (length ts ∷ []) (record {
+        short = short;
+        utf8 = utf8-joined ts (All-map (Legal wild) Utf8 ts (λ t l. l .utf8) a);
+        filled = joined-filled wild ts some′ a;
+        checks = rw legal-tokens (rw z at (check-legal wild 0 ts a last (omega arith)));
+      })
+
+-- ---- what the grammar says of the tokens of an accepted text
 
 none-behind : (wild b : Bool) (index at : ℕ) (ts : List (List ℕ)) (vs : List ℕ) → check wild (tailAt b at) index ts ≡ answer 0 vs → b ≡ true → ts ≡ []
 none-behind wild true index at [] vs e h = refl

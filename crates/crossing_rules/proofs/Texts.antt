@@ -8,13 +8,12 @@ use mathlib.Core.Option.{none}
 use lib.Dec.{eqb}
 use lib.ListN.{length, length-append}
 use borrow.Author.Tests.{eqb-true}
-use Rattle.subject_rules.specs.Text.{cutAt, tokens}
+use Rattle.subject_rules.specs.Text.{cutAt, tokens, joined}
 use Rattle.subject_rules.specs.Utf8.{firstBad}
 use Rattle.subject_rules.proofs.Ascii.{firstBad-cut, firstBad-join}
 use Rattle.subject_rules.proofs.Depths.{tokens-some}
 use Rattle.subject_rules.proofs.Pieces.{NoDot}
 use Rattle.sublist_tree.specs.Lists.{All}
-use Rattle.crossing_rules.specs.Crossing.{joined}
 
 -- a token without a dot is a text's first token where a dot follows it, and its only one where nothing does
 tokens-first : (t bs : List ℕ) → NoDot t → tokens (t ++ 0x2e ∷ bs) ≡ t ∷ tokens bs

@@ -2,12 +2,12 @@
 -- `filler` is the token for a position that is wild in both patterns, `x` in the call.
 use Prim.Native.Nat.{ℕ}
 use mathlib.Core.Bool.{Bool, true}
-use mathlib.Core.List.{List, [], _∷_, _++_, map}
+use mathlib.Core.List.{List, [], _∷_, map}
 use mathlib.Core.Option.{Option, none, some}
 use lib.Dec.{ltb}
 use lib.ListN.{length}
 use Rattle.subject_rules.specs.Choice.{pick, or}
-use Rattle.subject_rules.specs.Text.{tokens, isStar, isTail, same}
+use Rattle.subject_rules.specs.Text.{tokens, joined, isStar, isTail, same}
 use Rattle.subject_rules.specs.Answers.{answer}
 use Rattle.subject_rules.specs.Grammar.{grammar}
 use Rattle.subject_rules.specs.Outputs.{Outcome, outcome, over, ifParsed}
@@ -42,12 +42,6 @@ common filler (p ∷ ps) (q ∷ qs) =
     pick (isTail p) (some (map (plain filler) (q ∷ qs)))
     (pick (isTail q) (some (map (plain filler) (p ∷ ps)))
     (followed (meet filler p q) (common filler ps qs)))
-
--- tokens as a text, a dot between each two
-abbrev pub joined : List (List ℕ) → List ℕ
-joined [] = []
-joined (t ∷ []) = t
-joined (t ∷ (u ∷ ts)) = t ++ (0x2e ∷ joined (u ∷ ts))
 
 -- a subject has at most 4,096 bytes
 abbrev pub ofTokens : Option (List (List ℕ)) → Option (List ℕ)

@@ -1,7 +1,7 @@
 -- Texts: a text is the list of its bytes, cut at every `.` (2E) into tokens, one more than it has dots.
 use Prim.Native.Nat.{ℕ}
 use mathlib.Core.Bool.{Bool, true, false}
-use mathlib.Core.List.{List, [], _∷_}
+use mathlib.Core.List.{List, [], _∷_, _++_}
 use lib.Dec.{eqb}
 use Rattle.subject_rules.specs.Choice.{and}
 
@@ -14,6 +14,12 @@ cutAt false b (t ∷ ts) = (b ∷ t) ∷ ts
 abbrev pub tokens : List ℕ → List (List ℕ)
 tokens [] = [] ∷ []
 tokens (b ∷ bs) = cutAt (eqb b 0x2e) b (tokens bs)
+
+-- tokens as a text, a dot between each two
+abbrev pub joined : List (List ℕ) → List ℕ
+joined [] = []
+joined (t ∷ []) = t
+joined (t ∷ (u ∷ ts)) = t ++ (0x2e ∷ joined (u ∷ ts))
 
 -- the token is `*` (2A) alone
 abbrev pub isStar : List ℕ → Bool

@@ -1,6 +1,5 @@
 -- What the walks of a match, the counts and the subject's parse make of the call's outcome.
 use Prim.Native.Nat.{ℕ, _*_, _/_, _≤_, _<_}
-use native.Mathlib.Nat.{zero-add}
 use native.Mathlib.Omega.{arith}
 use mathlib.Core.Path.{_≡_, refl, sym, _∙_, ap}
 use mathlib.Core.Bool.{Bool, true, false}
@@ -11,7 +10,7 @@ use denote.Enum.Declared.{tagOf}
 use types.Run.{OneOf}
 use lib.Dec.{eqb, ltb, leb}
 use lib.ListN.{length, drop}
-use lib.Seq.{sets, sets-eq, length-sets, take-append-seam}
+use lib.Seq.{sets, length-sets, take-append-seam}
 use borrow.Author.Tests.{lt-ltb, le-ltb, le-leb, lt-leb, leb-true}
 use Rattle.subject_rules.specs.Choice.{pick, and}
 use Rattle.subject_rules.specs.Text.{tokens}
@@ -25,7 +24,8 @@ use Rattle.subject.specs.declared.Parsed.{Parsed}
 use Rattle.subject.specs.declared.Parsed.the-variants.{Accepted, Refused}
 use Rattle.sublist_walk_rules.specs.Walk.{part, Walked, found, failed, walkOver}
 use Rattle.subject.proofs.Refusals.{refused-leaves}
-use Rattle.subject_rules.specs.Outputs.{Outcome, outcome, over}
+use Rattle.subject_rules.proofs.Stores.{sets-over}
+use Rattle.subject_rules.specs.Outputs.{Outcome, outcome}
 use Rattle.sublist_walk_rules.specs.Matching.{countsFit, written, matchTable, matchParsed}
 use Rattle.sublist_walk.specs.Answers.{matchAnswer}
 use Rattle.sublist_walk.specs.Told.{walkOf, Finds, Ends, Holding, Wrote, tried, settled, Answers, Tries}
@@ -43,10 +43,6 @@ use Rattle.sublist_walk.specs.declared.Walked.the-variants as walked
 -- the same walk, as a call names the limit
 pub limit-same : (k1 k : ℕ) (a : List ℕ) (n m : ℕ) (ts hs : List ℕ) → k1 ≡ k → walkOver k1 a n m ts hs ≡ walkOver k a n m ts hs
 limit-same k1 k a n m ts hs e = rw e
-
--- as many places are written as the list has
-sets-over : (list out : List ℕ) → length list ≤ length out → sets out 0 list ≡ over list out
-sets-over list out h = rw zero-add at (sets-eq list out 0 (omega arith))
 
 -- what a walk leaves is its list, as far as the output goes
 pub walk-wrote : (w : Walked) (r : declared.Walked) (out after : List ℕ) → Ends r out after w → Wrote w out after
