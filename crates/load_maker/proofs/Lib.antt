@@ -1,0 +1,3 @@
+-- Laws of a text as it is made.
+pub mod Putting
+pub mod Stages

@@ -1,0 +1,2 @@
+-- The numbers and values of the answers.
+pub mod Answers

@@ -1,0 +1,1 @@
+// What the load maker makes of a state, and that it is what is asked. Definitions and theorems only: no code.
