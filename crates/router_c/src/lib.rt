@@ -1,7 +1,8 @@
 // The C calls of the router, on numbers and slices. Every call takes any numbers and bytes and asks nothing more.
-// Texts, lists, tables, and what a cabinet keeps: the snapshot and the cache.
+// Texts, texts made for a bench, lists, tables, and what a cabinet keeps: the snapshot and the cache.
 mod cabinet;
 mod lists;
+mod load;
 mod tables;
 mod texts;
 
@@ -18,10 +19,14 @@ pub use cabinet::router_snapshot_new;
 pub use cabinet::router_store;
 pub use lists::router_build;
 pub use lists::router_insert;
+pub use load::router_draw;
+pub use load::router_make_pattern;
+pub use load::router_make_subject;
 pub use router_words::CAnswer;
 pub use router_words::CCache;
 pub use router_words::CMadeCache;
 pub use router_words::CMadeSnapshot;
+pub use router_words::CMadeText;
 pub use router_words::CResolved;
 pub use router_words::CSnapshot;
 pub use router_words::CStored;

@@ -1,4 +1,4 @@
--- Laws of what the C structs say: of equal structs, of a refusal that another one holds or that stands for a verdict, and of outcomes.
+-- Laws of what the C structs say: of equal structs, of a refusal that another one holds or that stands for a verdict, of outcomes, and of texts made.
 use mathlib.Core.Path.{_≡_, refl, sym, subst}
 use mathlib.Core.List.{List}
 use Prim.Native.Nat.{ℕ}
@@ -8,10 +8,12 @@ use Rattle.subject_rules.specs.Answers.{Answer, answer}
 use Rattle.subject.specs.Answers.{refusal}
 use Rattle.sublist_rules.specs.Building.{held}
 use Rattle.subject_rules.specs.Outputs.{Outcome, outcome}
+use Rattle.load_maker_rules.specs.Load.{Making, made}
 use Rattle.resolve_cache_rules.specs.declared.ResolveCache.{ResolveCache}
 use Rattle.router_words.specs.declared.CAnswer.{CAnswer}
 use Rattle.router_words.specs.declared.CResolved.{CResolved}
-use Rattle.router_words.specs.Words.{numberOf, valueOf, Says, Writes, answerIn, cacheIn}
+use Rattle.router_words.specs.declared.CMadeText.{CMadeText}
+use Rattle.router_words.specs.Words.{numberOf, valueOf, Says, Writes, SaysText, MakesText, answerIn, cacheIn}
 
 -- an equal struct says the same
 pub says-as : {r s : CAnswer} {a : Answer} → r ≡ s → Says s a → Says r a
@@ -40,3 +42,7 @@ two-values (IllegalChar ch i) = (refl, refl)
 -- an answer, with the output that the call leaves
 pub told-outcome : {r : CAnswer} {out : List ℕ} {a : Answer} {o : Outcome} → Says r a → outcome a out ≡ o → Writes r out o
 told-outcome {r} {out} {a} p e = subst (λ (x : Outcome). Writes r out x) e (p, refl)
+
+-- a text that was made, with the state and the output that the call leaves
+pub told-made : {r : CMadeText} {out : List ℕ} {a : Answer} {state : ℕ} {m : Making} → SaysText r a state → made a state out ≡ m → MakesText r out m
+told-made {r} {out} p e = subst (λ (x : Making). MakesText r out x) e (p, refl)

@@ -6,6 +6,7 @@ use mathlib.Core.Path.{_≡_}
 use mathlib.Core.List.{List, [], _∷_, _++_}
 use lib.ListN.{getD}
 use Rattle.subject_rules.specs.Answers.{Answer, answer}
+use Rattle.load_maker_rules.specs.Load.{Making, made}
 use Rattle.sublist_entries.specs.declared.ListState.{ListState}
 use Rattle.sublist_entries.specs.Inserting.{InsertOutcome}
 use Rattle.sublist_rules.specs.Passes.{filling}
@@ -20,6 +21,7 @@ use Rattle.binding.specs.declared.Resolution.{Resolution}
 use Rattle.binding.specs.declared.Resolution.the-variants.{Routed, NoStream, Ambiguous}
 use Rattle.binding.specs.Verdict.{Judged, turnedDown, judged, Homed, CachedHomed}
 use Rattle.router_words.specs.declared.CAnswer.{CAnswer}
+use Rattle.router_words.specs.declared.CMadeText.{CMadeText}
 use Rattle.router_words.specs.declared.CSnapshot.{CSnapshot}
 use Rattle.router_words.specs.declared.CCache.{CCache}
 use Rattle.router_words.specs.declared.CMadeSnapshot.{CMadeSnapshot}
@@ -66,6 +68,16 @@ pub record Builds (r : CAnswer) (nodes targets : List ℕ) (o : BuildOutcome) : 
 -- a call that writes an output: its answer, and the output afterwards
 abbrev pub Writes : CAnswer → List ℕ → Outcome → Type 0
 Writes r out (outcome a list) = Says r a × (out ≡ list)
+
+-- the making of a text: its answer, and the state given back
+pub record SaysText (r : CMadeText) (a : Answer) (state : ℕ) : Type 0 where
+  pub number : r .number ≡ numberOf a
+  pub value : r .value ≡ valueOf a 0
+  pub state-is : r .state ≡ state
+
+-- and the output afterwards
+abbrev pub MakesText : CMadeText → List ℕ → Making → Type 0
+MakesText r out (made a state text) = SaysText r a state × (out ≡ text)
 
 -- a table of so many nodes and targets with its words
 abbrev pub tableOf : ℕ → ℕ → ℕ → List ℕ → List ℕ → Table

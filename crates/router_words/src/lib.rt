@@ -4,6 +4,8 @@ use binding::CachedSingleHome;
 use binding::Resolution;
 use binding::SingleHome;
 use crossing::Crossed;
+use load_maker::MadeText;
+use load_maker::TextAnswer;
 use resolve_cache::ResolveAnswer;
 use resolve_cache::Resolved;
 use resolve_cache_rules::MadeCache;
@@ -28,6 +30,7 @@ ghost use mathlib.Core.List.{[], _∷_};
 ghost use Rattle.subject_rules.specs.Answers.{answer};
 ghost use Rattle.subject.specs.Answers.{refusal, parsed, matched, placed};
 ghost use Rattle.crossing.specs.Answers.{crossed};
+ghost use Rattle.load_maker.specs.Answers.{textAnswer};
 ghost use Rattle.sublist_entries.specs.Answers.{insertAnswer};
 ghost use Rattle.sublist_rules.specs.Building.{held};
 ghost use Rattle.sublist.specs.Answers.{buildRefusal, buildAnswer};
@@ -36,7 +39,8 @@ ghost use Rattle.sublist_snapshot.specs.Answers.{madeAnswer, storeAnswer, snaps
 ghost use Rattle.resolve_cache_rules.specs.Answers.{cacheAnswer};
 ghost use Rattle.resolve_cache.specs.Answers.{resolveAnswer};
 ghost use Rattle.binding.specs.Answers.{homeAnswer, cachedAnswer};
-ghost use Rattle.router_words.specs.Words.{numberOf, valueOf, Says, SaysMade, SaysMadeCache, SaysVerdict};
+ghost use Rattle.router_words.specs.Words.{numberOf, valueOf, Says, SaysText};
+ghost use Rattle.router_words.specs.Words.{SaysMade, SaysMadeCache, SaysVerdict};
 ghost use Rattle.router_words.specs.Words.{snapshotOf, snapshotIn, cacheOf, answerIn, cacheIn};
 ghost use Rattle.router_words.specs.Words.{verdictAnswer, judgedAnswer};
 
@@ -47,6 +51,14 @@ pub struct CAnswer {
     pub first: u64,
     pub second: u64,
     pub third: u64,
+}
+
+// The making of a text: 0 and its length, or a refusal and its value; then the state.
+#[repr(C)]
+pub struct CMadeText {
+    pub number: u64,
+    pub value: u64,
+    pub state: u64,
 }
 
 // The state of a snapshot, lent by value; its words lie in a lent area.
@@ -220,6 +232,31 @@ pub fn to_c_crossed(c: Crossed) -> CAnswer
         Crossed::Apart => with_value(0, 0),
         Crossed::Invalid(e) => to_c_refusal(e),
         Crossed::OutShort(needed) => with_value(21, needed as u64),
+    }
+}
+
+// A text that was made: its length, or the refusal; then the state.
+pub fn to_c_made_text(m: MadeText) -> CMadeText
+    ensures { λ r. ⌜ SaysText r (textAnswer (m .answer)) (m .state) ⌝ }
+{
+    let state = m.state;
+    let answer = m.answer;
+    match answer {
+        TextAnswer::Text(size) => CMadeText {
+            number: 0,
+            value: size as u64,
+            state,
+        },
+        TextAnswer::ZeroStart => CMadeText {
+            number: 28,
+            value: 0,
+            state,
+        },
+        TextAnswer::OutShort(needed) => CMadeText {
+            number: 21,
+            value: needed as u64,
+            state,
+        },
     }
 }
 

@@ -1,7 +1,9 @@
-// Runs texts at the limits of the grammar, lists at the limit of a table's worst case, and the published vectors of
-// 64-bit FNV-1a, and says of each what came out and whether that is right. The vectors are those of the FNV reference
-// code by Fowler, Noll and Vo.
+// Runs texts at the limits of the grammar, lists at the limit of a table's worst case, the published vectors of 64-bit
+// FNV-1a, draws of xorshift and texts made by them, and says of each what came out and whether that is right. The
+// vectors are those of the FNV reference code by Fowler, Noll and Vo. The draws are the first from Marsaglia's own
+// start; they and the texts come from a separate program.
 use router_c::CAnswer;
+use router_c::CMadeText;
 
 // ---- The areas: room for the 1,024 runs of ten tokens and two entries more, and for the 2,049 nodes of their table.
 
@@ -20,6 +22,9 @@ const ENTRY_NUMBERS: usize = ENTRIES * 3;
 const STORE_BYTES: usize = RUNS * RUN_BYTES + 42;
 
 const NODE_WORDS: usize = 2049 * 16;
+
+// The longest text that is made.
+const MADE_TEXT: usize = 11;
 
 type Run = [u8; RUN_BYTES];
 
@@ -43,6 +48,18 @@ fn parse(text: &[u8]) -> CAnswer {
 
 fn token_hash(token: &[u8]) -> u64 {
     router_c::router_token_hash(token)
+}
+
+fn draw(state: u64) -> u64 {
+    router_c::router_draw(state)
+}
+
+fn make_pattern(state: u64, out: &mut [u8]) -> CMadeText {
+    router_c::router_make_pattern(state, out)
+}
+
+fn make_subject(state: u64, out: &mut [u8]) -> CMadeText {
+    router_c::router_make_subject(state, out)
 }
 
 // The list is what the insert before it left: entries and bytes in use.
@@ -117,6 +134,42 @@ fn hash_row(text: &[u8], right: u64) {
     say(b"\": ");
     io::print_hex(1, got, 16);
     say_whether(got == right);
+}
+
+// One line for a draw; the state behind it.
+fn draw_row(state: u64, right: u64) -> u64 {
+    let got = draw(state);
+    say(b"draw:");
+    say_number(got);
+    say_whether(got == right);
+    got
+}
+
+// One line for a text that was made, as long as the output; the state behind it.
+fn made_row(name: &[u8], out: &[u8], got: CMadeText, length: u64, state: u64) -> u64 {
+    say(name);
+    say(out);
+    say_number(got.number);
+    say_number(got.value);
+    say_number(got.state);
+    if got.value != length {
+        say_whether(false);
+        return got.state;
+    }
+    say_whether(got.state == state);
+    got.state
+}
+
+fn pattern_row(from: u64, length: u64, state: u64) -> u64 {
+    let mut out = [b'-'; MADE_TEXT];
+    let got = make_pattern(from, &mut out);
+    made_row(b"pattern made: ", &out, got, length, state)
+}
+
+fn subject_row(from: u64, length: u64, state: u64) -> u64 {
+    let mut out = [b'-'; MADE_TEXT];
+    let got = make_subject(from, &mut out);
+    made_row(b"subject made: ", &out, got, length, state)
 }
 
 // ---- The rows.
@@ -275,6 +328,41 @@ fn runs() {
     refused_rows(all, &mut words, &mut store, &mut nodes, &mut targets);
 }
 
+// From Marsaglia's own start.
+fn draws() {
+    let first = draw_row(88172645463325252, 8748534153485358512);
+    let second = draw_row(first, 3040900993826735515);
+    draw_row(second, 3453997556048239312);
+}
+
+// One behind another, from the start 1.
+fn patterns() {
+    let first = pattern_row(1, 7, 9659130143999365733);
+    let second = pattern_row(first, 3, 14279964170112293133);
+    let third = pattern_row(second, 7, 5632491372296299238);
+    let fourth = pattern_row(third, 3, 14960181732260564859);
+    let fifth = pattern_row(fourth, 11, 2696366417989762466);
+    pattern_row(fifth, 3, 17489430009591986844);
+}
+
+fn subjects() {
+    let first = subject_row(1, 7, 9659130143999365733);
+    let second = subject_row(first, 3, 14279964170112293133);
+    let third = subject_row(second, 7, 5632491372296299238);
+    let fourth = subject_row(third, 3, 14960181732260564859);
+    let fifth = subject_row(fourth, 11, 2696366417989762466);
+    subject_row(fifth, 3, 17489430009591986844);
+}
+
+// A start of 0, and an output that is one byte short: the output and the state are left.
+fn refused_makings() {
+    let mut short = [b'-'; 6];
+    let zero = make_pattern(0, &mut short);
+    made_row(b"from the start 0: ", &short, zero, 0, 0);
+    let one_less = make_subject(1, &mut short);
+    made_row(b"into 6 bytes: ", &short, one_less, 7, 1);
+}
+
 fn main() {
     depths();
     characters();
@@ -282,4 +370,8 @@ fn main() {
     short_hashes();
     hashes_of_foobar();
     hashes_of_chongo();
+    draws();
+    patterns();
+    subjects();
+    refused_makings();
 }

@@ -6,12 +6,14 @@
 mod cabinet;
 mod calls;
 mod lists;
+mod load;
 mod tables;
 mod texts;
 mod words;
 
 pub use cabinet::*;
 pub use lists::*;
+pub use load::*;
 pub use tables::*;
 pub use texts::*;
 pub use words::*;

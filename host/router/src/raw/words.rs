@@ -98,6 +98,15 @@ pub struct Verdict {
     pub generation: u64,
 }
 
+/// 0 and a made text's length, or a refusal with its value; then the new state, which a refusal leaves as it was lent.
+#[repr(C)]
+#[derive(Clone, Copy, Debug, Default, PartialEq, Eq)]
+pub struct MadeText {
+    pub number: u64,
+    pub value: u64,
+    pub state: u64,
+}
+
 /// So many 64-bit numbers.
 const fn numbers(count: usize) -> usize {
     count * size_of::<u64>()
@@ -114,4 +123,5 @@ const _: () = {
     assert!(size_of::<MadeCache>() == numbers(6));
     assert!(size_of::<Resolved>() == numbers(9));
     assert!(size_of::<Verdict>() == numbers(5));
+    assert!(size_of::<MadeText>() == numbers(3));
 };
