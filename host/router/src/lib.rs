@@ -33,6 +33,7 @@ mod answers;
 pub mod binding;
 pub mod bytes;
 pub mod limits;
+pub mod load;
 #[allow(unsafe_code)]
 pub mod raw;
 pub mod refusal;
@@ -44,6 +45,7 @@ pub use binding::{
     resolve_single_home, resolve_single_home_cached, single_home, Resolution, Verdict,
 };
 pub use limits::*;
+pub use load::{draw, make_pattern, make_subject, Made};
 pub use refusal::{Refusal, TextRefusal};
 pub use resolve_cache::{Listed, ResolveCache};
 pub use subject::{

@@ -3,6 +3,9 @@
 /// The most bytes that a text may have.
 pub const MAX_TEXT: usize = 4096;
 
+/// The bytes of the longest text that the load maker makes: six letters or wildcards, and five dots. An output of so many is never short for it.
+pub const MADE_TEXT: usize = 11;
+
 /// The most tokens that a text may have.
 pub const MAX_TOKENS: usize = 32;
 
@@ -74,7 +77,7 @@ mod tests {
 
     #[test]
     fn sizes() {
-        assert_eq!(MAX_NODES, 65537);
+        assert_eq!((MAX_NODES, MADE_TEXT), (65537, 6 + 5));
         assert_eq!(table_words(5, 5), 85);
         assert_eq!((head_numbers(2), key_bytes(2), kept_words(2)), (6, 512, 32));
         assert_eq!(cache_bytes(1), 344);

@@ -1,4 +1,4 @@
-//! Why a call turns back: the scope document's refusals, numbers 1 to 21 and 99, with their names and values.
+//! Why a call turns back: the scope document's refusals, numbers 1 to 21, 28 and 99, with their names and values.
 //!
 //! Values count from 0, as the scope document has them. The sentences that `Display` gives count tokens, bytes and entries from 1, as people do,
 //! and say so where it matters.
@@ -57,8 +57,10 @@ pub enum Refusal {
     Damaged,
     /// 20: the snapshot's area is shorter than the table.
     StoreFull,
-    /// 21: the list has so many targets, or the subject so many bytes, and the output is shorter.
+    /// 21: the list has so many targets, or the text so many bytes, and the output is shorter.
     OutShort { needed: usize },
+    /// 28: the load maker's start is 0.
+    ZeroStart,
     /// 99: the areas of a call on bytes are too long.
     CopyFull,
     /// An answer that is none of the above. No call of the proved library gives one.
@@ -222,6 +224,7 @@ impl Refusal {
             21 => Refusal::OutShort {
                 needed: count(first)?,
             },
+            28 => Refusal::ZeroStart,
             99 => Refusal::CopyFull,
             _ => return None,
         })
@@ -243,6 +246,7 @@ impl Refusal {
             Refusal::Damaged => 19,
             Refusal::StoreFull => 20,
             Refusal::OutShort { .. } => 21,
+            Refusal::ZeroStart => 28,
             Refusal::CopyFull => 99,
             Refusal::Unknown { number, .. } => *number,
         }
@@ -264,6 +268,7 @@ impl Refusal {
             Refusal::Damaged => "Damaged",
             Refusal::StoreFull => "StoreFull",
             Refusal::OutShort { .. } => "OutShort",
+            Refusal::ZeroStart => "ZeroStart",
             Refusal::CopyFull => "CopyFull",
             Refusal::Unknown { .. } => "Unknown",
         }
@@ -300,7 +305,8 @@ impl fmt::Display for Refusal {
             Refusal::BadSlot => f.write_str("the cache's state or slots hold what no call leaves there: make the cache anew"),
             Refusal::Damaged => write!(f, "the table is damaged: its counts or words point outside its areas, or more than {MAX_FRONTIER} places would be reached; build it anew"),
             Refusal::StoreFull => f.write_str("the snapshot's area is shorter than the table: lend a longer area"),
-            Refusal::OutShort { needed } => write!(f, "the output is too short for the answer: lend at least {needed} places, one a target of a list or a byte of a subject"),
+            Refusal::OutShort { needed } => write!(f, "the output is too short for the answer: lend at least {needed} places, one a target of a list or a byte of a text"),
+            Refusal::ZeroStart => f.write_str("the start is 0, and every draw from 0 is 0: begin with any other number, as 1"),
             Refusal::CopyFull => write!(f, "the areas have together more than {COPY_BYTES} bytes: use the call on words"),
             Refusal::Unknown { number, .. } => write!(f, "the library gave an answer that this program does not know, number {number}: use the library and the program of one version"),
         }
@@ -345,6 +351,8 @@ mod tests {
             let refusal = Refusal::from_words(number, [3, 2, 1]);
             assert_eq!((refusal.number(), refusal.name()), (number, name));
         }
+        let zero = Refusal::from_words(28, [0; 3]);
+        assert_eq!((zero.number(), zero.name()), (28, "ZeroStart"));
         assert_eq!(Refusal::from_words(99, [0; 3]), Refusal::CopyFull);
     }
 
@@ -369,6 +377,7 @@ mod tests {
         let others = [
             (0, [0; 3]),
             (22, [0; 3]),
+            (27, [0; 3]),
             (98, [1, 2, 3]),
             (u64::MAX, [u64::MAX; 3]),
             (7, [0xd800, 0, 0]),
@@ -394,7 +403,7 @@ mod tests {
 
     #[test]
     fn every_refusal_is_one_sentence_line() {
-        for number in (1..=21).chain([99, 1234]) {
+        for number in (1..=21).chain([28, 99, 1234]) {
             let sentence = Refusal::from_words(number, [7, 7, 7]).to_string();
             assert!(!sentence.is_empty() && !sentence.contains('\n'));
         }
