@@ -2,7 +2,7 @@
 use crate::command_line::Options;
 use crate::json::Object;
 use crate::list::Line;
-use crate::load::{ListFile, Loaded};
+use crate::list_file::{ListFile, Loaded};
 use crate::notes::Notes;
 use crate::pairs::{self, Count};
 use crate::shown::{counted, grouped, typed};

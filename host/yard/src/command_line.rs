@@ -1,6 +1,9 @@
 //! The command line: a command, its arguments and its options.
+use crate::shown::{grouped, shown};
 use crate::trouble::Trouble;
-use std::ffi::OsString;
+use router::MAX_ENTRIES;
+use std::ffi::{OsStr, OsString};
+use std::str::FromStr;
 
 /// What the options ask for.
 #[derive(Debug, Default, PartialEq, Eq)]
@@ -10,6 +13,7 @@ pub struct Options {
     pub patterns: bool,
     pub depth: Option<usize>,
     pub under: Option<Vec<u8>>,
+    pub subjects: Option<usize>,
 }
 
 /// What is to be done.
@@ -31,6 +35,10 @@ pub enum Command {
     Crossing {
         first: OsString,
         second: Option<OsString>,
+    },
+    Load {
+        start: u64,
+        lines: usize,
     },
     Parse {
         texts: Vec<Vec<u8>>,
@@ -79,6 +87,17 @@ fn depth_of(value: &OsString) -> Result<usize, Trouble> {
     number.ok_or_else(|| usage("--depth needs a number behind it, as --depth 3".into()))
 }
 
+/// A number in digits and nothing else, unless it is too large for its type.
+fn digits<N: FromStr>(word: &OsStr) -> Option<N> {
+    let plain = |word: &&str| word.bytes().all(|byte| byte.is_ascii_digit());
+    word.to_str().filter(plain)?.parse().ok()
+}
+
+fn subjects_of(value: &OsStr) -> Result<usize, Trouble> {
+    let fault = "--subjects needs a number behind it, as --subjects 500";
+    digits(value).ok_or_else(|| usage(fault.into()))
+}
+
 fn sort(mut arguments: impl Iterator<Item = OsString>) -> Result<Sorted, Trouble> {
     let mut sorted = Sorted::default();
     while let Some(argument) = arguments.next() {
@@ -91,6 +110,10 @@ fn sort(mut arguments: impl Iterator<Item = OsString>) -> Result<Sorted, Trouble
             }
             Some("--under") => {
                 sorted.options.under = Some(bytes(value("--under", &mut arguments)?));
+            }
+            Some("--subjects") => {
+                let subjects = subjects_of(&value("--subjects", &mut arguments)?)?;
+                sorted.options.subjects = Some(subjects);
             }
             Some("--help" | "-h") => sorted.help = true,
             Some("--version" | "-V") => sorted.version = true,
@@ -140,6 +163,38 @@ fn crossing(words: Vec<OsString>) -> Result<Command, Trouble> {
     }
 }
 
+/// The start of a load. 0 is none, but that is for the router to say.
+fn start_of(word: &OsStr) -> Result<u64, Trouble> {
+    digits(word).ok_or_else(|| {
+        let (word, most) = (shown(word.as_encoded_bytes()), u64::MAX);
+        usage(format!(
+            "`{word}` is no start: it is a number from 1 to {most}"
+        ))
+    })
+}
+
+fn lines_of(word: &OsStr) -> Result<usize, Trouble> {
+    let lines = digits(word).filter(|&lines| lines <= MAX_ENTRIES);
+    lines.ok_or_else(|| {
+        let (word, most) = (shown(word.as_encoded_bytes()), grouped(MAX_ENTRIES));
+        usage(format!(
+            "`{word}` is no number of lines: a list has 0 to {most} of them"
+        ))
+    })
+}
+
+fn load(words: Vec<OsString>) -> Result<Command, Trouble> {
+    match <[OsString; 2]>::try_from(words) {
+        Ok([start, lines]) => Ok(Command::Load {
+            start: start_of(&start)?,
+            lines: lines_of(&lines)?,
+        }),
+        Err(_) => Err(usage(
+            "yard load takes a start and a number of lines, as yard load 1 1600".into(),
+        )),
+    }
+}
+
 fn matches(words: Vec<OsString>) -> Result<Command, Trouble> {
     match <[OsString; 2]>::try_from(words) {
         Ok([pattern, subject]) => Ok(Command::Matches {
@@ -164,6 +219,7 @@ fn command(name: &OsString, words: Vec<OsString>) -> Result<Command, Trouble> {
         Some("route") => route(words),
         Some("tree") => one("tree", "list", words).map(|list| Command::Tree { list }),
         Some("crossing") => crossing(words),
+        Some("load") => load(words),
         Some("parse") => parse(words),
         Some("matches") => matches(words),
         Some("texts") => one("texts", "file", words).map(|file| Command::Texts { file }),
@@ -181,6 +237,7 @@ fn check_options(command: &Command, options: &Options) -> Result<(), Trouble> {
     let route = matches!(command, Command::Route { .. });
     let texts = matches!(command, Command::Texts { .. });
     let crossing = matches!(command, Command::Crossing { .. });
+    let load = matches!(command, Command::Load { .. });
     let two = matches!(command, Command::Crossing { second, .. } if second.is_some());
     let misplaced = [
         (options.depth.is_some() && !tree, "--depth is for yard tree"),
@@ -192,6 +249,10 @@ fn check_options(command: &Command, options: &Options) -> Result<(), Trouble> {
         (
             options.patterns && !two,
             "--patterns is for yard crossing with two patterns",
+        ),
+        (
+            options.subjects.is_some() && !load,
+            "--subjects is for yard load",
         ),
         (options.json && texts, "yard texts has no --json"),
     ];
@@ -269,6 +330,16 @@ mod tests {
     }
 
     #[test]
+    fn loads() {
+        let load = |start, lines| Some(Command::Load { start, lines });
+        let plain = request(&["load", "0", "007"]);
+        assert_eq!(plain.map(|request| request.command), load(0, 7));
+        let most = request(&["load", "18446744073709551615", "2048", "--subjects", "9"]);
+        let most = most.map(|request| (request.options.subjects, Some(request.command)));
+        assert_eq!(most, Some((Some(9), load(u64::MAX, 2048))));
+    }
+
+    #[test]
     fn wrong_lines() {
         for words in [
             &[][..],
@@ -290,6 +361,25 @@ mod tests {
             &["route", "a", "b", "--under", "c"],
             &["check", "a", "-v"],
             &["texts", "a", "--json"],
+            &["load"],
+            &["load", "1"],
+            &["load", "1", "2", "3"],
+            &["load", "x", "2"],
+            &["load", "", "2"],
+            &["load", "+1", "2"],
+            &["load", "-1", "2"],
+            &["load", "--", "-1", "2"],
+            &["load", "18446744073709551616", "2"],
+            &["load", "1", "2049"],
+            &["load", "1", "-2"],
+            &["load", "1", "1e3"],
+            &["load", "1", "2", "--subjects"],
+            &["load", "1", "2", "--subjects", "x"],
+            &["load", "1", "2", "--subjects", "-3"],
+            &["load", "1", "2", "-v"],
+            &["load", "1", "2", "--patterns"],
+            &["check", "a", "--subjects", "3"],
+            &["route", "a", "--subjects", "3"],
         ] {
             assert_eq!(request(words), None, "{words:?}");
         }

@@ -2,7 +2,7 @@
 use crate::command_line::Options;
 use crate::json::Object;
 use crate::list::Line;
-use crate::load::ListFile;
+use crate::list_file::ListFile;
 use crate::meetings::Meetings;
 use crate::pairs;
 use crate::progress::Writes;

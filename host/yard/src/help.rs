@@ -9,6 +9,7 @@ yard: checks a yard's binding list, routes orders by it, and shows why.
   yard crossing LIST                  which lines can meet in one order, which is then Ambiguous
   yard crossing LIST PATTERN          which lines a new line with this pattern would meet
   yard crossing PATTERN PATTERN       an order that both patterns match, or that there is none
+  yard load START LINES               a heavy list drawn from START, the same on every bench
   yard parse TEXT..                   what each text is as a pattern and as a subject
   yard matches PATTERN SUBJECT        whether one pattern matches one subject
   yard texts FILE                     both, for all lines `pattern TEXT` and `subject TEXT` of a file
@@ -27,6 +28,7 @@ Options
   --patterns      crossing: both words are patterns, whatever files there are
   --depth N       tree: no more than N tokens deep
   --under TOKENS  tree: only what lies below these tokens, as yard.north or yard.*
+  --subjects N    load: not the list, but N subjects that are drawn behind its last line
   --              what follows is no option, even where it begins with a dash
   --help, -h      this text
   --version, -V   the version
@@ -48,14 +50,25 @@ those ending in > first, the shorter first; then the others; a name before *; eq
 Two lines meet where both match one order. It is Ambiguous even if they have the same target. An order
 that crossing shows is one example: no order that both match is shorter, and further lines may match it.
 
+A load is drawn from START, a number from 1 to 18446744073709551615, one line behind another: patterns
+of 1 to 6 tokens, each a letter from a to h or a *, the last perhaps a >, with the targets 1, 2 and so
+on. LINES is 2048 at the most; N has no limit. The same numbers give the same load on every bench:
+
+    yard load 1 1600 >heavy.list
+    yard load 1 1600 --subjects 500 >orders
+    yard route heavy.list <orders
+
+It is for times and comparisons, and no yard: a line as > matches every order, so nearly all of them
+are Ambiguous.
+
 Refusals are shown with the number and name of the router's rules. Lines, tokens and bytes are
 counted from 1.
 
 Exit status
   0   the list is accepted; every subject is routed; every text is accepted; the pattern matches;
-      no order can meet two lines, the new line and another, or both patterns
+      no order can meet two lines, the new line and another, or both patterns; the load is written
   1   some subject is not routed (NoStream, Ambiguous or refused); a text is refused; no match;
       crossing shows an order
-  2   the list is refused, or a text of matches or crossing; the command line is wrong, or a file
-      cannot be read or written
+  2   the list is refused, a text of matches or crossing, or the start of a load; the command line is
+      wrong, or a file cannot be read or written
 ";

@@ -10,6 +10,7 @@ mod help;
 mod input;
 mod json;
 mod list;
+mod list_file;
 mod load;
 mod meetings;
 mod natural;
@@ -49,6 +50,7 @@ fn run(request: &Request, out: &mut impl Write) -> Result<Status, Trouble> {
         Command::Crossing { first, second } => {
             crossing::run(first, second.as_deref(), options, out)
         }
+        Command::Load { start, lines } => load::run(*start, *lines, options, out),
         Command::Parse { texts } => single::parse(texts, options, out),
         Command::Matches { pattern, subject } => single::matches(pattern, subject, options, out),
         Command::Texts { file } => texts::run(file, out),

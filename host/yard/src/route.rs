@@ -3,7 +3,7 @@ use crate::command_line::Options;
 use crate::desk::{self, Desk, Order};
 use crate::input::{next_line, InputLine};
 use crate::json::{array, Object};
-use crate::load::ListFile;
+use crate::list_file::ListFile;
 use crate::progress::{ask_for, Progress, Writes};
 use crate::shown::{counted, grouped, refused, shown};
 use crate::trouble::{Status, Trouble};

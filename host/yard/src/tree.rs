@@ -2,7 +2,7 @@
 use crate::command_line::Options;
 use crate::json::{array, Object};
 use crate::list::Line;
-use crate::load::ListFile;
+use crate::list_file::ListFile;
 use crate::natural;
 use crate::shown::{counted, shown};
 use crate::tables::Tables;

@@ -8,11 +8,11 @@ use std::process::ExitCode;
 /// The exit status of a command that did its work.
 #[derive(Clone, Copy, Debug, PartialEq, Eq)]
 pub enum Status {
-    /// 0: the list is accepted, every subject is routed, no order meets two lines.
+    /// 0: the list is accepted, every subject is routed, no order meets two lines, the load is written.
     Good,
     /// 1: some subject is not routed, some text is refused, the pattern does not match, or an order meets two lines.
     NotAll,
-    /// 2: the list or a pattern is refused.
+    /// 2: the list, a pattern or a start is refused.
     Refused,
 }
 

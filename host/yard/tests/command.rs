@@ -22,6 +22,8 @@ fn help_and_version() {
         "tree",
         "crossing",
         "--patterns",
+        "load",
+        "--subjects",
         "parse",
         "matches",
         "Exit status",

@@ -356,6 +356,50 @@ fn every_order_shown_is_ambiguous() {
 }
 
 #[test]
+fn loads() {
+    let told = read(&yard(&["load", "--json", "1", "3"]).out);
+    let patterns: Vec<&str> = told.iter().map(|line| line.at("pattern").text()).collect();
+    assert_eq!(patterns, ["d.f.d.b", "*.b", "g.c.b.g"]);
+    let told = Value::Array(told);
+    assert_eq!(told.numbers("target"), [1, 2, 3]);
+    assert_eq!(told.numbers("line"), [2, 3, 4]);
+    let told = read(&yard(&["load", "--json", "1", "12", "--subjects", "2"]).out);
+    let subjects: Vec<&str> = told.iter().map(|told| told.at("subject").text()).collect();
+    assert_eq!(subjects, ["c.d.c.f", "e.d.f.f"]);
+    for words in [
+        &["load", "--json", "7", "0"][..],
+        &["load", "--json", "7", "9", "--subjects", "0"],
+    ] {
+        let said = yard(words);
+        assert_eq!((said.status, said.out.as_str()), (0, ""));
+    }
+}
+
+/// A line of a load has the number by which the other commands know it.
+#[test]
+fn lines_of_a_load() {
+    let list = list_of(&yard(&["load", "1", "2048"]).out);
+    let told = read(&yard(&["load", "--json", "1", "2048"]).out);
+    let routed = yard_with_input(&["route", "--json", list.name()], b"a.b.c\nd\n");
+    for order in read(&routed.out) {
+        let matched = order.at("lines").array();
+        assert!(matched.len() > 1 && matched.iter().all(|line| told.contains(line)));
+    }
+}
+
+#[test]
+fn a_refused_start() {
+    let said = yard(&["load", "--json", "0", "3"]);
+    assert_eq!((said.status, said.err.as_str()), (2, ""));
+    let told = read(&said.out);
+    assert_eq!((told.len(), told[0].at("start").text()), (1, "0"));
+    let refusal = told[0].at("refusal");
+    assert_eq!(refusal.at("number").number(), 28);
+    assert_eq!(refusal.at("name").text(), "ZeroStart");
+    assert!(refusal.at("sentence").text().starts_with("the start is 0"));
+}
+
+#[test]
 fn texts() {
     let told = read(&yard(&["parse", "--json", "a.*"]).out);
     assert_eq!(told[0].at("pattern").at("tokens").number(), 2);
