@@ -4,6 +4,7 @@
 use crate::lists::runs;
 use crate::model_snapshot::answer;
 use crate::original::{self, MAX_TEXT};
+use crate::sentences::{holds, Broken};
 use router::raw::Answer;
 
 /// "A position that is wild in both patterns gets the token `x`."
@@ -37,14 +38,6 @@ pub struct Said<'a> {
     pub answer: Answer,
     pub before: &'a [u8],
     pub after: &'a [u8],
-}
-
-/// A sentence that an answer does not keep to.
-#[derive(Debug, PartialEq, Eq)]
-pub struct Broken(&'static str);
-
-fn holds(sentence: &'static str, kept: bool) -> Result<(), Broken> {
-    kept.then_some(()).ok_or(Broken(sentence))
 }
 
 /// Whether any token will do for a pattern at a place: `*` stands there, or `>` there or before it.

@@ -16,7 +16,9 @@ mod first_tables;
 mod hostile;
 mod kinds;
 mod limits;
+mod load;
 mod options;
+mod output;
 mod parts;
 mod pools;
 mod seen;
@@ -49,6 +51,7 @@ fn whole(tally: &mut Tally, random: &mut Random) {
     first_tables::run(tally, random);
     words::run(tally, random);
     crossing::run(tally);
+    load::run(tally, random);
 }
 
 /// Those and the random parts, two at a time. Each has a seed of its own, so that what it does does not hang on when it is its turn.

@@ -1,6 +1,6 @@
 //! The random parts. Each is made of turns, and each turn has a seed of its own, by which it can be made again.
 use crate::tally::{Family, Tally};
-use crate::{byte_limit, calls, crossing, hostile, kinds, limits, states, texts};
+use crate::{byte_limit, calls, crossing, hostile, kinds, limits, load, states, texts};
 use compare::random::Random;
 use std::time::{Duration, Instant};
 
@@ -16,7 +16,7 @@ pub struct Part {
 }
 
 /// How many there are.
-pub const COUNT: usize = 11;
+pub const COUNT: usize = 12;
 
 static PARTS: [Part; COUNT] = [
     Part {
@@ -106,6 +106,14 @@ static PARTS: [Part; COUNT] = [
         turns: 30_000,
         share: 200,
         turn: crossing::turn,
+    },
+    Part {
+        name: "load",
+        about: "made patterns and subjects from any start, and lists of them",
+        family: Family::Made,
+        turns: 30_000,
+        share: 200,
+        turn: load::turn,
     },
 ];
 

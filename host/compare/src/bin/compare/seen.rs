@@ -1,7 +1,10 @@
 //! What the inputs must bring up, each at least once: a kind that never came up means that the comparisons miss it.
+use crate::load::met::Met;
 use crate::theirs::Scope;
+use compare::made;
 use compare::model_cache::{Stage, Way};
 use compare::model_crossing::Due;
+use compare::model_load::Kind;
 use compare::original::MAX_TEXT;
 use router::limits::{MAX_CAPACITY, SLOT_BYTES};
 use std::collections::BTreeMap;
@@ -39,6 +42,12 @@ const CROSSING_ANSWERS: [(&str, &[u64]); 3] = [
     (CROSSING_REFUSED[0], &[1, 2, 3, 4, 5, 6, 8, 9]),
     (CROSSING_REFUSED[1], &[1, 2, 3, 4, 5, 6, 8, 9]),
     (CROSSING, &[0, 21]),
+];
+
+/// The answers that each making of a text must give.
+const MADE_ANSWERS: [(&str, &[u64]); 2] = [
+    (made::name(Kind::Pattern), &[0, 21, 28]),
+    (made::name(Kind::Subject), &[0, 21, 28]),
 ];
 
 /// What else must happen, by name.
@@ -176,6 +185,8 @@ pub fn crossing_ways(due: &Due, length: usize) -> Vec<&'static str> {
 pub struct Seen {
     answers: BTreeMap<(&'static str, u64), u64>,
     ways: BTreeMap<&'static str, u64>,
+    /// Tokens and outputs of made texts.
+    pub made: Met,
 }
 
 impl Seen {
@@ -197,6 +208,7 @@ impl Seen {
         for (way, count) in other.ways {
             *self.ways.entry(way).or_default() += count;
         }
+        self.made.add(other.made);
     }
 
     fn answered(&self, call: &'static str, number: u64) -> u64 {
@@ -244,6 +256,8 @@ impl Seen {
         let calls = self.report_on("calls on snapshots and caches", &ANSWERS, &WAYS);
         let about = "crossings of two patterns";
         let crossings = self.report_on(about, &CROSSING_ANSWERS, &CROSSING_WAYS);
-        [calls, crossings].concat()
+        let about = "made patterns and subjects";
+        let answers = self.report_on(about, &MADE_ANSWERS, &[]);
+        [calls, crossings, answers, self.made.report()].concat()
     }
 }

@@ -1,18 +1,11 @@
 //! Two patterns on all sides.
+use crate::output::Output;
 use crate::seen;
 use crate::tally::{shown, Tally};
 use compare::model_crossing::{judge, Due, Patterns, Said};
 use compare::original::MAX_TEXT;
 use compare::subjects_collide::subjects_collide;
 use router::raw::{self, Answer};
-
-/// So many bytes in front of an output and behind it must stay as they are, too.
-const MARGIN: usize = 8;
-
-/// Bytes as they stand before a call: not the same as their neighbours, and none that a well-formed text has.
-fn fresh_bytes(length: usize) -> Vec<u8> {
-    (0..length).map(|place| 0xf5 + (place % 11) as u8).collect()
-}
 
 /// Two patterns, and what is due for them.
 pub struct Pair<'a> {
@@ -65,22 +58,19 @@ impl<'a> Pair<'a> {
     /// `fewest` is the fewest bytes of a subject that both match.
     pub fn call(&self, tally: &mut Tally, length: usize, fewest: Option<usize>) {
         let [first, second] = self.patterns;
-        let before = fresh_bytes(length + 2 * MARGIN);
-        let lent = MARGIN..MARGIN + length;
-        let mut after = before.clone();
-        let ours = raw::crossing(first, second, &mut after[lent.clone()]);
+        let mut out = Output::new(length);
+        let ours = raw::crossing(first, second, out.lent());
         let inputs = || format!("{}  an output of {length} bytes\n", shown(&self.patterns));
         let said = Said {
             answer: ours,
-            before: &before[lent.clone()],
-            after: &after[lent.clone()],
+            before: out.before(),
+            after: out.after(),
         };
         let judged = judge(self.patterns, fewest, &said);
         tally.compare_on("crossing by its sentences", inputs, judged, Ok(()));
         let (answer, written) = self.due.with_output(length);
         tally.compare_on("crossing", inputs, ours, answer);
-        let mut due = before;
-        due[lent][..written.len()].copy_from_slice(written);
+        let [after, due] = out.with_margins(written);
         tally.compare_on("crossing's output", inputs, after, due);
         if let Some(collide) = self.collide() {
             let crosses = ours.number == 21 || ours.first == 1;
