@@ -114,8 +114,6 @@ fn longest_rows(rounds: usize) {
 }
 
 pub fn rows(rounds: usize, lines: &[Line]) {
-    println!();
-    row::heading(MODEL);
     let crossing = crossing_pairs(lines);
     let name = format!("crossing, the yard list's {} pairs shown", crossing.len());
     pairs(&name, rounds, &crossing);

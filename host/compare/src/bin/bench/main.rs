@@ -3,13 +3,16 @@
 //! bench [ROUNDS]
 //! Each call counts by its fastest of so many rounds of about a millisecond. The lines are those of a Markdown table.
 //! Both sides get bytes and check that they are UTF-8; under `known text` the original gets what is known to be UTF-8.
-//! The original has no crossing: these rows are a table of their own, beside the model written out in Rust, which parses with the original.
+//! The rows on a made list and on the worst tables are tables of their own. So are those on crossings and on making texts, which the original does not have:
+//! they stand beside the models written out in Rust. That of crossings parses with the original.
 mod caches;
 mod crossings;
+mod made;
 mod row;
 mod snapshots;
 mod tables;
 mod texts;
+mod worst;
 mod yard;
 
 use compare::lists::{self, Line};
@@ -41,13 +44,12 @@ fn main() {
         .and_then(|word| word.parse().ok())
         .unwrap_or(ROUNDS);
     let [small, large] = [lists::example_part(200), lists::example()];
-    row::heading(row::ORIGINAL);
+    row::heading("call", row::ORIGINAL);
     texts::rows(rounds, &large);
     let matched = subjects(&small, SUBJECTS);
     for lines in [&small, &large] {
-        tables::rows(rounds, lines, &matched);
+        tables::rows(rounds, &row::lines(lines.len()), lines, &matched);
     }
-    tables::dense_rows(rounds);
     let matched = yard::texts(matched);
     let [small_yard, large_yard] = [&small, &large].map(|lines| Yard::new(lines));
     for yard in [&small_yard, &large_yard] {
@@ -58,5 +60,14 @@ fn main() {
     caches::rows(rounds, &large_yard, &matched, &many);
     let long_lists = Yard::new(&lists::yard(&mut Random::new(1_600), 1_600));
     caches::long_lists(rounds, &long_lists, &matched);
+    println!();
+    row::heading("call on a made list", row::ORIGINAL);
+    made::rows(rounds);
+    println!();
+    row::heading("call on the worst tables", row::ORIGINAL);
+    worst::rows(rounds);
+    println!();
+    row::heading("call", row::MODEL);
     crossings::rows(rounds, &large);
+    made::calls(rounds);
 }

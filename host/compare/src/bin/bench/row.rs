@@ -108,8 +108,8 @@ fn shown(nanoseconds: f64) -> String {
 }
 
 /// What stands in the columns, as the head of a Markdown table.
-pub fn heading(beside: &[&str]) {
-    print!("| {:NAME$} | {:>TIME$} |", "call", "router");
+pub fn heading(calls: &str, beside: &[&str]) {
+    print!("| {calls:NAME$} | {:>TIME$} |", "router");
     for column in beside {
         print!(" {column:>TIME$} | ratio |");
     }

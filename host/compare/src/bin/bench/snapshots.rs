@@ -29,11 +29,12 @@ fn matches(rounds: usize, yard: &Yard, subjects: &[String]) {
     );
 }
 
-fn verdicts(rounds: usize, yard: &Yard, subjects: &[String]) {
+/// The row on verdicts, with the name of the yard's list.
+pub fn verdicts(rounds: usize, name: &str, yard: &Yard, subjects: &[String]) {
     let ours = RefCell::new(Ours::new(&yard.table, 1));
     let snapshot = yard.snapshot();
     row(
-        &format!("verdict without a cache, {}", lines(yard.count)),
+        &format!("verdict without a cache, {name}"),
         rounds,
         subjects,
         &[
@@ -49,7 +50,7 @@ fn verdicts(rounds: usize, yard: &Yard, subjects: &[String]) {
 
 pub fn rows(rounds: usize, yard: &Yard, subjects: &[String]) {
     matches(rounds, yard, subjects);
-    verdicts(rounds, yard, subjects);
+    verdicts(rounds, &lines(yard.count), yard, subjects);
 }
 
 fn store_ours(yard: &Yard, ours: &mut Ours) -> u64 {

@@ -1,6 +1,6 @@
 //! The rows on lists: inserting all their lines, building the table, matching a subject in it.
-use crate::row::{self, row};
-use compare::lists::{runs_of_ten, Line};
+use crate::row::row;
+use compare::lists::Line;
 use compare::original;
 use compare::table::{List, Table};
 use oracle::sublist::{Sublist, SublistBuilder};
@@ -38,7 +38,30 @@ pub fn their_table(list: &SublistBuilder<u32>) -> Sublist<u32> {
     list.build(0).expect("the list is accepted")
 }
 
-fn matches(name: &str, rounds: usize, lines: &[Line], subjects: &[Vec<u8>]) {
+/// The row on inserting all lines into an empty list.
+fn inserts(name: &str, rounds: usize, lines: &[Line]) {
+    row(
+        name,
+        rounds,
+        &[lines],
+        &[&|lines| inserted(lines).entries() as u64, &|lines| {
+            black_box(their_list(lines));
+            0
+        }],
+    );
+}
+
+/// The row on building the table of a list.
+pub fn builds(name: &str, rounds: usize, lines: &[Line]) {
+    let (list, theirs) = (inserted(lines), their_list(lines));
+    let ours = |_: &()| built(&list).nodes as u64;
+    let theirs = |_: &()| their_table(&theirs).node_count() as u64;
+    assert_eq!(ours(&()), theirs(&()), "{name}: the nodes of the tables");
+    row(name, rounds, &[()], &[&ours, &theirs]);
+}
+
+/// The row on matching subjects in the table of a list.
+pub fn matches(name: &str, rounds: usize, lines: &[Line], subjects: &[Vec<u8>]) {
     let (table, theirs) = (built(&inserted(lines)), their_table(&their_list(lines)));
     let out = RefCell::new((vec![0; lines.len()], Vec::with_capacity(lines.len())));
     let ours = |subject: &Vec<u8>| table.match_subject(subject, &mut out.borrow_mut().0).first;
@@ -55,37 +78,9 @@ fn matches(name: &str, rounds: usize, lines: &[Line], subjects: &[Vec<u8>]) {
     row(name, rounds, subjects, &[&ours, &theirs]);
 }
 
-pub fn rows(rounds: usize, lines: &[Line], subjects: &[Vec<u8>]) {
-    let count = row::lines(lines.len());
-    row(
-        &format!("insert of {count}"),
-        rounds,
-        &[lines],
-        &[&|lines| inserted(lines).entries() as u64, &|lines| {
-            black_box(their_list(lines));
-            0
-        }],
-    );
-    let (list, theirs) = (inserted(lines), their_list(lines));
-    row(
-        &format!("build of {count}"),
-        rounds,
-        &[()],
-        &[&|_| built(&list).nodes as u64, &|_| {
-            their_table(&theirs).node_count() as u64
-        }],
-    );
-    matches(&format!("match on {count}"), rounds, lines, subjects);
-}
-
-/// Matches at which the walk stands at 1,024 nodes for each of the last 22 tokens, and the list has all lines.
-pub fn dense_rows(rounds: usize) {
-    let subject = ["a"; 32].join(".").into_bytes();
-    let subjects = [subject];
-    let long = runs_of_ten(&".a".repeat(22));
-    let name = "match on 1,024 runs of a and *, 22 tokens behind";
-    matches(name, rounds, &long, &subjects);
-    let tails = [long, runs_of_ten(".>")].concat();
-    let name = "the same with a > line behind each run";
-    matches(name, rounds, &tails, &subjects);
+/// The three rows on a list, by its name.
+pub fn rows(rounds: usize, name: &str, lines: &[Line], subjects: &[Vec<u8>]) {
+    inserts(&format!("insert of {name}"), rounds, lines);
+    builds(&format!("build of {name}"), rounds, lines);
+    matches(&format!("match on {name}"), rounds, lines, subjects);
 }
