@@ -103,7 +103,8 @@ met-premises = record {
   apart = tokens-apart;
 }
 
-opened : Opened (tableOf 5 fiveEntries 1) (wordsFor (tableOf 5 fiveEntries 1)) (cabinet 1 (tableOf 5 fiveEntries 1))
+-- the makings are accepted
+pub opened : Opened (tableOf 5 fiveEntries 1) (wordsFor (tableOf 5 fiveEntries 1)) (cabinet 1 (tableOf 5 fiveEntries 1))
 unfolding sequence firstBad fnv fnvFrom grammar seek literalChild starChild added placed childOrNew onward grown planted counted joined lineIn linesIn told settled laidAt laid filledBy filled buildLeaves worstOf worst make withCapacity
 opened = record { snapshotMade = refl; cachesMade = λ i. (1, refl) }
 

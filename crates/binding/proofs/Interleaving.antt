@@ -98,7 +98,7 @@ module _ (pool : List (List ℕ)) (apart : HashedApart pool) where
       hash-entries (tokens subject) (s .entries) (no-clash pool apart (s .entries) (tokens subject) (i .within) (subst (Within pool) (subject-literals subject values e) w))
 
   -- the walk of the standing table ends with it, and with 01's peak
-  stands-walk : (s : Standing) (b : Cabinet) → Stands pool s b → (subject values : List ℕ) → Within pool (literals (tokens subject)) → grammar false subject ≡ answer 0 values
+  pub stands-walk : (s : Standing) (b : Cabinet) → Stands pool s b → (subject values : List ℕ) → Within pool (literals (tokens subject)) → grammar false subject ≡ answer 0 values
       → walkOf (b .snapshot) (b .words) subject ≡ found (due (s .entries) subject) (peakDue (s .entries) subject)
   stands-walk s b i subject values w e =
       holds-walk (b .snapshot) (b .words) (rootOf fnv (s .entries)) (i .holds) subject (low s b i subject)
@@ -234,7 +234,8 @@ module _ (pool : List (List ℕ)) (apart : HashedApart pool) where
       go true = omega arith
       go false = omega arith
 
-  more : (s : Standing) (c : Call) → (standingAfter s c) .stores ≤ s .stores + isStore c
+  -- a call adds at most one store
+  pub more : (s : Standing) (c : Call) → (standingAfter s c) .stores ≤ s .stores + isStore c
   more s (store t es) = omega (arith, one-more s t es)
   more s (clearing j) = omega arith
   more s (asking subject out) = omega arith

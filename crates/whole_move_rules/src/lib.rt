@@ -1,0 +1,1 @@
+// What becomes of a whole move: definitions and theorems only, no code.
