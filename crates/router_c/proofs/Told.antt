@@ -21,13 +21,17 @@ use Rattle.binding.specs.declared.SingleHome.{SingleHome}
 use Rattle.binding.specs.declared.CachedResolution.{CachedResolution}
 use Rattle.binding.specs.Verdict.{Homed, CachedHomed}
 use Rattle.binding.specs.Answers.{homeAnswer, cachedAnswer, homed, cachedHomed}
+use Rattle.whole_move_rules.specs.Move.{Moved}
+use Rattle.whole_move.specs.declared.WholeMove.{WholeMove}
+use Rattle.whole_move.specs.Answers.{moveSays, moved}
 use Rattle.router_words.specs.declared.CAnswer.{CAnswer}
 use Rattle.router_words.specs.declared.CMadeSnapshot.{CMadeSnapshot}
 use Rattle.router_words.specs.declared.CStored.{CStored}
 use Rattle.router_words.specs.declared.CMadeCache.{CMadeCache}
 use Rattle.router_words.specs.declared.CResolved.{CResolved}
 use Rattle.router_words.specs.declared.CVerdict.{CVerdict}
-use Rattle.router_words.specs.Words.{numberOf, valueOf, Says, Inserts, Builds, SaysMade, Makes, SaysMadeCache, snapshotIn, Stores, answerIn, cacheIn, Resolves, judgedAnswer, SaysVerdict, Judges, JudgesCached}
+use Rattle.router_words.specs.declared.CMove.{CMove}
+use Rattle.router_words.specs.Words.{numberOf, valueOf, Says, Inserts, Builds, SaysMade, Makes, SaysMadeCache, snapshotIn, Stores, answerIn, cacheIn, Resolves, judgedAnswer, SaysVerdict, Judges, JudgesCached, movedAnswer, SaysMove, Moves}
 
 pub told-insert : {r : CAnswer} {list store : List ℕ} (i : Inserted) {o : InsertOutcome (List ℕ)} → Says r (insertAnswer i) → inserted i list store ≡ o → Inserts r list store o
 told-insert {r} {list} {store} i p e = subst (λ (x : InsertOutcome (List ℕ)). Inserts r list store x) e (record { says = p; list-is = refl; store-is = refl })
@@ -49,6 +53,9 @@ told-home {r} {out} h p e = subst (λ (y : Homed). Judges r out y) e (record { s
 
 pub told-cached : {w : CResolved} {a : Area} {out : List ℕ} (h : CachedResolution) {x : CachedHomed} → Says (answerIn w) (judgedAnswer (cachedAnswer (h .answer))) × (cacheIn w ≡ h .cache) → cachedHomed h a out ≡ x → JudgesCached w a out x
 told-cached {w} {a} {out} h p e = subst (λ (y : CachedHomed). JudgesCached w a out y) e (record { says = p .0; cache-is = p .1; area-is = refl; out-is = refl })
+
+pub told-move : {r : CMove} {out : List ℕ} (m : WholeMove) {x : Moved} → SaysMove r (movedAnswer (moveSays m)) → moved m out ≡ x → Moves r out x
+told-move {r} {out} m p e = subst (λ (y : Moved). Moves r out y) e (record { says = p; out-is = refl })
 
 -- the same of equal answers and outcomes
 pub same-answer : {r : CAnswer} {a b : Answer} → a ≡ b → Says r a → Says r b

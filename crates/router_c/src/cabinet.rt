@@ -8,6 +8,7 @@ use router_words::CAnswer;
 use router_words::CCache;
 use router_words::CMadeCache;
 use router_words::CMadeSnapshot;
+use router_words::CMove;
 use router_words::CResolved;
 use router_words::CSnapshot;
 use router_words::CStored;
@@ -22,7 +23,8 @@ ghost use Rattle.resolve_cache_rules.specs.Cache.{withCapacity, clear, resolve}
 ghost use Rattle.resolve_cache_rules.specs.Answers.{lent};
 ghost use Rattle.binding.specs.Verdict.{singleHome, resolveSingleHome, resolveSingleHomeCached};
 ghost use Rattle.router_words.specs.Words.{Says, Writes, tableOf, snapshotOf, cacheOf, SaysMadeCache, verdictAnswer};
-ghost use Rattle.router_words.specs.Words.{answerIn, cacheIn, Makes, Stores, Resolves, Judges, JudgesCached};
+ghost use Rattle.whole_move_rules.specs.Move.{spansIn, wholeMove};
+ghost use Rattle.router_words.specs.Words.{answerIn, cacheIn, Makes, Stores, Resolves, Judges, JudgesCached, Moves};
 ghost use Rattle.router_bytes_rules.specs.Bytes.{resolveBytes};
 ghost use Rattle.router_bytes.specs.Answers.{bytesAnswer};
 
@@ -238,4 +240,24 @@ pub extern "C" fn router_resolve_single_home_cached(
         subject,
         out,
     ))
+}
+
+// Up to 64 subjects routed together by the standing table; two numbers a subject say where it lies in the bytes, start
+// and length. The answer: 0, 0 and how many targets are written over the first places of the output, one a subject in
+// their order; or 0, 1, the place of the first subject that is not Routed, and its verdict; or why not.
+#[no_mangle]
+pub extern "C" fn router_whole_move(
+    snapshot: CSnapshot,
+    area: &[u32],
+    bytes: &[u8],
+    spans: &[usize],
+    out: &mut [u32],
+) -> CMove
+    ensures { λ r. ⌜
+        Moves r (now (out .exit))
+        (wholeMove (snapshotOf snapshot) (now (area .entry)) (now (bytes .entry)) (spansIn (now (spans .entry)))
+        (now (out .entry))) ⌝ }
+{
+    let standing = router_words::from_c_snapshot(snapshot);
+    router_words::to_c_move(whole_move::whole_move(standing, area, bytes, spans, out))
 }

@@ -20,6 +20,7 @@ use Rattle.resolve_cache_rules.specs.Cache.{Resolved}
 use Rattle.binding.specs.declared.Resolution.{Resolution}
 use Rattle.binding.specs.declared.Resolution.the-variants.{Routed, NoStream, Ambiguous}
 use Rattle.binding.specs.Verdict.{Judged, turnedDown, judged, Homed, CachedHomed}
+use Rattle.whole_move_rules.specs.Move.{MoveSays, routed, stopped, turnedDown as notMoved, Moved}
 use Rattle.router_words.specs.declared.CAnswer.{CAnswer}
 use Rattle.router_words.specs.declared.CMadeText.{CMadeText}
 use Rattle.router_words.specs.declared.CSnapshot.{CSnapshot}
@@ -29,6 +30,7 @@ use Rattle.router_words.specs.declared.CStored.{CStored}
 use Rattle.router_words.specs.declared.CMadeCache.{CMadeCache}
 use Rattle.router_words.specs.declared.CResolved.{CResolved}
 use Rattle.router_words.specs.declared.CVerdict.{CVerdict}
+use Rattle.router_words.specs.declared.CMove.{CMove}
 
 -- the number of an answer
 abbrev pub numberOf : Answer → ℕ
@@ -199,4 +201,26 @@ pub record JudgesCached (r : CResolved) (a : Area) (out : List ℕ) (x : CachedH
   pub says : Says (answerIn r) (judgedAnswer (x .says))
   pub cache-is : cacheIn r ≡ x .cache
   pub area-is : a ≡ x .area
+  pub out-is : out ≡ x .out
+
+-- a whole move: 0 and the number of targets; or 1, the place where it stops, and the verdict there; or a refusal
+abbrev pub movedAnswer : MoveSays → Answer
+movedAnswer (routed count) = answer 0 (0 ∷ count ∷ [])
+movedAnswer (stopped place verdict) = answer 0 (1 ∷ place ∷ verdictNumbers verdict)
+movedAnswer (notMoved a) = a
+
+-- all but the last number
+abbrev pub answerFront : CMove → CAnswer
+answerFront r = record { number = r .number; first = r .first; second = r .second; third = r .third }
+
+pub record SaysMove (r : CMove) (a : Answer) : Type 0 where
+  pub number : r .number ≡ numberOf a
+  pub first : r .first ≡ valueOf a 0
+  pub second : r .second ≡ valueOf a 1
+  pub third : r .third ≡ valueOf a 2
+  pub fourth : r .fourth ≡ valueOf a 3
+
+-- and the output afterwards
+pub record Moves (r : CMove) (out : List ℕ) (x : Moved) : Type 0 where
+  pub says : SaysMove r (movedAnswer (x .says))
   pub out-is : out ≡ x .out

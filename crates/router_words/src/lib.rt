@@ -25,6 +25,7 @@ use sublist_snapshot::SnapshotMatch;
 use sublist_snapshot::StoreAnswer;
 use sublist_snapshot::Stored;
 use sublist_walk::TableMatch;
+use whole_move::WholeMove;
 ghost use mathlib.Core.Path.{_≡_};
 ghost use mathlib.Core.List.{[], _∷_};
 ghost use Rattle.subject_rules.specs.Answers.{answer};
@@ -39,10 +40,12 @@ ghost use Rattle.sublist_snapshot.specs.Answers.{madeAnswer, storeAnswer, snaps
 ghost use Rattle.resolve_cache_rules.specs.Answers.{cacheAnswer};
 ghost use Rattle.resolve_cache.specs.Answers.{resolveAnswer};
 ghost use Rattle.binding.specs.Answers.{homeAnswer, cachedAnswer};
+ghost use Rattle.whole_move_rules.specs.Move.{stopped};
+ghost use Rattle.whole_move.specs.Answers.{moveSays};
 ghost use Rattle.router_words.specs.Words.{numberOf, valueOf, Says, SaysText};
 ghost use Rattle.router_words.specs.Words.{SaysMade, SaysMadeCache, SaysVerdict};
 ghost use Rattle.router_words.specs.Words.{snapshotOf, snapshotIn, cacheOf, answerIn, cacheIn};
-ghost use Rattle.router_words.specs.Words.{verdictAnswer, judgedAnswer};
+ghost use Rattle.router_words.specs.Words.{verdictAnswer, judgedAnswer, answerFront, movedAnswer, SaysMove};
 
 // An answer: 0 or the number of a refusal, then its values, 0 where there is none.
 #[repr(C)]
@@ -135,6 +138,17 @@ pub struct CVerdict {
     pub value: u64,
     pub peak: u64,
     pub generation: u64,
+}
+
+// A whole move that is routed: 0, 0 and the number of targets. One that stops: 0, 1, the place of the first subject that
+// is not Routed, and the kind and value of its verdict. Or a refusal with its values, then zeros.
+#[repr(C)]
+pub struct CMove {
+    pub number: u64,
+    pub first: u64,
+    pub second: u64,
+    pub third: u64,
+    pub fourth: u64,
 }
 
 // An answer with no values.
@@ -633,4 +647,64 @@ pub fn to_c_cached_resolution(h: CachedResolution) -> CResolved
     let answer = h.answer;
     let cache = h.cache;
     with_cache(to_c_cached(answer), cache)
+}
+
+// An answer, as that of a whole move.
+fn with_zero(a: CAnswer) -> CMove
+    ensures { λ r. ⌜ (answerFront r ≡ a) × (r .fourth ≡ 0) ⌝ }
+{
+    CMove {
+        number: a.number,
+        first: a.first,
+        second: a.second,
+        third: a.third,
+        fourth: 0,
+    }
+}
+
+// An answer with one more value before its own.
+fn with_first(first: u64, a: CAnswer) -> CMove
+    ensures { λ r. ⌜
+        (r .number ≡ a .number)
+        × (r .first ≡ first)
+        × (r .second ≡ a .first)
+        × (r .third ≡ a .second)
+        × (r .fourth ≡ a .third) ⌝ }
+{
+    CMove {
+        number: a.number,
+        first,
+        second: a.first,
+        third: a.second,
+        fourth: a.third,
+    }
+}
+
+// A whole move that stops at a place, with the verdict there.
+fn to_c_stop(place: u64, v: Resolution) -> CMove
+    ensures { λ r. ⌜ SaysMove r (movedAnswer (stopped place v)) ⌝ }
+{
+    let verdict = to_c_resolution(v);
+    CMove {
+        number: 0,
+        first: 1,
+        second: place,
+        third: verdict.first,
+        fourth: verdict.second,
+    }
+}
+
+// A whole move: how many are routed, where it stops, or the refusal.
+pub fn to_c_move(m: WholeMove) -> CMove
+    ensures { λ r. ⌜ SaysMove r (movedAnswer (moveSays m)) ⌝ }
+{
+    match m {
+        WholeMove::Routed(count) => with_zero(with_two(0, 0, count as u64)),
+        WholeMove::Stopped { place, resolution } => to_c_stop(place as u64, resolution),
+        WholeMove::SetTooLarge => with_zero(plain(22)),
+        WholeMove::BadEntry(place) => with_zero(with_value(12, place as u64)),
+        WholeMove::Invalid { place, error } => with_first(place as u64, to_c_refusal(error)),
+        WholeMove::Damaged => with_zero(plain(19)),
+        WholeMove::OutShort(needed) => with_zero(with_value(21, needed as u64)),
+    }
 }
