@@ -29,7 +29,7 @@ impl Resolution {
     }
 
     /// The verdict of a kind and a value, as the C calls give them; `Unknown` for any other kind or a target that is none.
-    fn from_words([kind, value]: [u64; 2]) -> Result<Resolution, Refusal> {
+    pub(crate) fn from_words([kind, value]: [u64; 2]) -> Result<Resolution, Refusal> {
         match (kind, u32::try_from(value)) {
             (0, _) => Ok(Resolution::NoStream),
             (1, Ok(target)) => Ok(Resolution::Routed(target)),

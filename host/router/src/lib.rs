@@ -40,6 +40,7 @@ pub mod refusal;
 pub mod resolve_cache;
 pub mod subject;
 pub mod sublist;
+pub mod whole_move;
 
 pub use binding::{
     resolve_single_home, resolve_single_home_cached, single_home, Resolution, Verdict,
@@ -53,3 +54,4 @@ pub use subject::{
     tokens,
 };
 pub use sublist::{build, Built, List, Match, Snapshot, StandingMatch, Table};
+pub use whole_move::{whole_move, WholeMove};

@@ -24,6 +24,9 @@ pub const MAX_NODES: usize = MAX_ENTRIES * MAX_TOKENS + 1;
 /// The most nodes that a walk may stand at, and so the most that a table's worst case may be.
 pub const MAX_FRONTIER: usize = 1024;
 
+/// The most subjects that a whole move may have. An output of so many is never short for it.
+pub const MAX_MOVE: usize = 64;
+
 /// The numbers, the bytes of a subject and the targets that a slot of a cache takes.
 pub const SLOT_NUMBERS: usize = 3;
 pub const SLOT_BYTES: usize = 256;

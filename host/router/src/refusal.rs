@@ -1,9 +1,9 @@
-//! Why a call turns back: the scope document's refusals, numbers 1 to 21, 28 and 99, with their names and values.
+//! Why a call turns back: the scope document's refusals, numbers 1 to 22, 28 and 99, with their names and values.
 //!
-//! Values count from 0, as the scope document has them. The sentences that `Display` gives count tokens, bytes and entries from 1, as people do,
-//! and say so where it matters.
+//! Values count from 0, as the scope document has them. The sentences that `Display` gives count tokens, bytes, entries and subjects from 1,
+//! as people do, and say so where it matters.
 use crate::limits::{
-    COPY_BYTES, MAX_CAPACITY, MAX_ENTRIES, MAX_FRONTIER, MAX_TEXT, MAX_TOKENS, NODE_WORDS,
+    COPY_BYTES, MAX_CAPACITY, MAX_ENTRIES, MAX_FRONTIER, MAX_MOVE, MAX_TEXT, MAX_TOKENS, NODE_WORDS,
 };
 use core::fmt;
 
@@ -35,12 +35,16 @@ pub enum TextRefusal {
 pub enum Refusal {
     /// 1 to 9: the call's own subject or pattern is refused.
     Text(TextRefusal),
+    /// 1 to 9: this subject of a move is refused.
+    Subject { place: usize, text: TextRefusal },
     /// 10: the list is full.
     EntriesFull,
     /// 11: the pattern is longer than what is left of the text store.
     TextFull,
     /// 12: the text of this entry lies outside the store.
     BadEntry { index: usize },
+    /// 12: this subject of a move lies outside the lent bytes.
+    SubjectOutside { place: usize },
     /// 13: the text of an entry is refused.
     InvalidPattern(TextRefusal),
     /// 14: the table needs so many nodes, and fewer were lent.
@@ -57,8 +61,10 @@ pub enum Refusal {
     Damaged,
     /// 20: the snapshot's area is shorter than the table.
     StoreFull,
-    /// 21: the list has so many targets, or the text so many bytes, and the output is shorter.
+    /// 21: the list or the move has so many targets, or the text so many bytes, and the output is shorter.
     OutShort { needed: usize },
+    /// 22: the move has over 64 subjects.
+    SetTooLarge,
     /// 28: the load maker's start is 0.
     ZeroStart,
     /// 99: the areas of a call on bytes are too long.
@@ -200,6 +206,25 @@ impl Refusal {
         Refusal::known(number, values).unwrap_or(Refusal::Unknown { number, values })
     }
 
+    /// The same for a whole move, where the subject's place stands before the values of 1 to 9, and is the value of 12.
+    pub fn from_move_words(number: u64, values: [u64; 3]) -> Refusal {
+        let known = match number {
+            1..=9 | 12 => Refusal::of_subject(number, values),
+            _ => Refusal::known(number, values),
+        };
+        known.unwrap_or(Refusal::Unknown { number, values })
+    }
+
+    /// What is wrong with one subject of a move.
+    fn of_subject(number: u64, [place, first, second]: [u64; 3]) -> Option<Refusal> {
+        let place = count(place)?;
+        if number == 12 {
+            return Some(Refusal::SubjectOutside { place });
+        }
+        let text = TextRefusal::from_words(number, first, second)?;
+        Some(Refusal::Subject { place, text })
+    }
+
     fn known(number: u64, [first, second, third]: [u64; 3]) -> Option<Refusal> {
         Some(match number {
             1..=9 => Refusal::Text(TextRefusal::from_words(number, first, second)?),
@@ -224,6 +249,7 @@ impl Refusal {
             21 => Refusal::OutShort {
                 needed: count(first)?,
             },
+            22 => Refusal::SetTooLarge,
             28 => Refusal::ZeroStart,
             99 => Refusal::CopyFull,
             _ => return None,
@@ -233,10 +259,10 @@ impl Refusal {
     /// The scope document's number.
     pub const fn number(&self) -> u64 {
         match self {
-            Refusal::Text(text) => text.number(),
+            Refusal::Text(text) | Refusal::Subject { text, .. } => text.number(),
             Refusal::EntriesFull => 10,
             Refusal::TextFull => 11,
-            Refusal::BadEntry { .. } => 12,
+            Refusal::BadEntry { .. } | Refusal::SubjectOutside { .. } => 12,
             Refusal::InvalidPattern(_) => 13,
             Refusal::NodesFull { .. } => 14,
             Refusal::TargetsFull => 15,
@@ -246,6 +272,7 @@ impl Refusal {
             Refusal::Damaged => 19,
             Refusal::StoreFull => 20,
             Refusal::OutShort { .. } => 21,
+            Refusal::SetTooLarge => 22,
             Refusal::ZeroStart => 28,
             Refusal::CopyFull => 99,
             Refusal::Unknown { number, .. } => *number,
@@ -255,10 +282,10 @@ impl Refusal {
     /// The scope document's name.
     pub const fn name(&self) -> &'static str {
         match self {
-            Refusal::Text(text) => text.name(),
+            Refusal::Text(text) | Refusal::Subject { text, .. } => text.name(),
             Refusal::EntriesFull => "EntriesFull",
             Refusal::TextFull => "TextFull",
-            Refusal::BadEntry { .. } => "BadEntry",
+            Refusal::BadEntry { .. } | Refusal::SubjectOutside { .. } => "BadEntry",
             Refusal::InvalidPattern(_) => "InvalidPattern",
             Refusal::NodesFull { .. } => "NodesFull",
             Refusal::TargetsFull => "TargetsFull",
@@ -268,6 +295,7 @@ impl Refusal {
             Refusal::Damaged => "Damaged",
             Refusal::StoreFull => "StoreFull",
             Refusal::OutShort { .. } => "OutShort",
+            Refusal::SetTooLarge => "SetTooLarge",
             Refusal::ZeroStart => "ZeroStart",
             Refusal::CopyFull => "CopyFull",
             Refusal::Unknown { .. } => "Unknown",
@@ -285,11 +313,19 @@ impl fmt::Display for Refusal {
     fn fmt(&self, f: &mut fmt::Formatter<'_>) -> fmt::Result {
         match *self {
             Refusal::Text(text) => text.fmt(f),
+            Refusal::Subject { place, text } => {
+                let subject = place.saturating_add(1);
+                write!(f, "subject {subject} (counted from 1): {text}")
+            }
             Refusal::EntriesFull => write!(f, "the list is full: it takes {MAX_ENTRIES} entries, or fewer where less room was lent; take lines out"),
             Refusal::TextFull => f.write_str("the text store is full: the pattern is longer than what is left of it; lend a longer store"),
             Refusal::BadEntry { index } => {
                 let entry = index.saturating_add(1);
                 write!(f, "entry {entry} (counted from 1) has a text that lies outside the text store: lend the store that the list was written with")
+            }
+            Refusal::SubjectOutside { place } => {
+                let subject = place.saturating_add(1);
+                write!(f, "subject {subject} (counted from 1) lies outside the lent bytes: lend the bytes that the move was written in")
             }
             Refusal::InvalidPattern(text) => {
                 let (number, name) = (text.number(), text.name());
@@ -306,6 +342,7 @@ impl fmt::Display for Refusal {
             Refusal::Damaged => write!(f, "the table is damaged: its counts or words point outside its areas, or more than {MAX_FRONTIER} places would be reached; build it anew"),
             Refusal::StoreFull => f.write_str("the snapshot's area is shorter than the table: lend a longer area"),
             Refusal::OutShort { needed } => write!(f, "the output is too short for the answer: lend at least {needed} places, one a target of a list or a byte of a text"),
+            Refusal::SetTooLarge => write!(f, "the move has more than {MAX_MOVE} subjects: split it into moves that may each go out alone"),
             Refusal::ZeroStart => f.write_str("the start is 0, and every draw from 0 is 0: begin with any other number, as 1"),
             Refusal::CopyFull => write!(f, "the areas have together more than {COPY_BYTES} bytes: use the call on words"),
             Refusal::Unknown { number, .. } => write!(f, "the library gave an answer that this program does not know, number {number}: use the library and the program of one version"),
@@ -321,7 +358,7 @@ mod tests {
     extern crate std;
     use std::string::ToString;
 
-    const NAMES: [&str; 21] = [
+    const NAMES: [&str; 22] = [
         "TooLong",
         "NotUtf8",
         "Empty",
@@ -343,6 +380,7 @@ mod tests {
         "Damaged",
         "StoreFull",
         "OutShort",
+        "SetTooLarge",
     ];
 
     #[test]
@@ -376,7 +414,7 @@ mod tests {
     fn other_answers_are_unknown() {
         let others = [
             (0, [0; 3]),
-            (22, [0; 3]),
+            (23, [0; 3]),
             (27, [0; 3]),
             (98, [1, 2, 3]),
             (u64::MAX, [u64::MAX; 3]),
@@ -392,6 +430,25 @@ mod tests {
     }
 
     #[test]
+    fn refusals_of_a_move() {
+        for (number, name) in (1..).zip(NAMES) {
+            let refusal = Refusal::from_move_words(number, [3, 2, 1]);
+            assert_eq!((refusal.number(), refusal.name()), (number, name));
+        }
+        let text = TextRefusal::IllegalChar { ch: '*', index: 4 };
+        let subject = Refusal::Subject { place: 63, text };
+        assert_eq!(Refusal::from_move_words(9, [63, 42, 4]), subject);
+        let outside = Refusal::SubjectOutside { place: 2 };
+        assert_eq!(Refusal::from_move_words(12, [2, 0, 0]), outside);
+        let short = Refusal::OutShort { needed: 5 };
+        assert_eq!(Refusal::from_move_words(21, [5, 0, 0]), short);
+        for (number, values) in [(0, [2, 0, 0]), (8, [1, u64::MAX, 0]), (23, [0; 3])] {
+            let unknown = Refusal::Unknown { number, values };
+            assert_eq!(Refusal::from_move_words(number, values), unknown);
+        }
+    }
+
+    #[test]
     fn sentences_count_from_one() {
         let refusal = Refusal::from_words(6, [1, 0, 0]);
         assert!(refusal
@@ -399,13 +456,21 @@ mod tests {
             .starts_with("token 2 (counted from 1) is empty"));
         let last = TextRefusal::EmptyToken { index: usize::MAX };
         assert!(last.to_string().contains("is empty"));
+        let subject = Refusal::from_move_words(6, [2, 1, 0]).to_string();
+        assert!(
+            subject.starts_with("subject 3 (counted from 1): token 2 (counted from 1) is empty")
+        );
+        let outside = Refusal::from_move_words(12, [u64::MAX, 0, 0]).to_string();
+        assert!(outside.contains("lies outside"));
     }
 
     #[test]
     fn every_refusal_is_one_sentence_line() {
-        for number in (1..=21).chain([28, 99, 1234]) {
-            let sentence = Refusal::from_words(number, [7, 7, 7]).to_string();
-            assert!(!sentence.is_empty() && !sentence.contains('\n'));
+        for number in (1..=22).chain([28, 99, 1234]) {
+            for refusal in [Refusal::from_words, Refusal::from_move_words] {
+                let sentence = refusal(number, [7, 7, 7]).to_string();
+                assert!(!sentence.is_empty() && !sentence.contains('\n'));
+            }
         }
     }
 }

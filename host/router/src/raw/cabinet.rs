@@ -1,7 +1,7 @@
 //! The calls on what a cabinet keeps: the snapshot in which a table stands, and a cache; and verdicts.
 use super::calls::calls;
 use super::{
-    Answer, CacheState, MadeCache, MadeSnapshot, Resolved, SnapshotState, Stored, Verdict,
+    Answer, CacheState, MadeCache, MadeSnapshot, Move, Resolved, SnapshotState, Stored, Verdict,
 };
 
 calls! {
@@ -61,4 +61,11 @@ calls! {
         cache: CacheState, heads: &mut [u64], keys: &mut [u8], kept: &mut [u32],
         snapshot: SnapshotState, area: &[u32], subject: &[u8], out: &mut [u32],
     ) -> Resolved = router_resolve_single_home_cached;
+
+    /// Up to 64 subjects routed together by the standing table. `spans` has two numbers a subject, where it starts in `bytes` and how long it is; a number
+    /// left over counts for none. If every subject is Routed its target is written to `out`, in the order of the subjects; else `out` is as it was.
+    /// Or 22; 12 or 1 to 9 with the subject's place; 19; 21.
+    pub fn whole_move(
+        snapshot: SnapshotState, area: &[u32], bytes: &[u8], spans: &[usize], out: &mut [u32],
+    ) -> Move = router_whole_move;
 }

@@ -107,6 +107,18 @@ pub struct MadeText {
     pub state: u64,
 }
 
+/// Of a whole move that is routed, 0, 0 and the number of targets; of one that stops, 0, 1, the place of the first subject that is not Routed, and the
+/// kind and value of its verdict, as a [`Verdict`] has them. Or a refusal and its values; of 1 to 9, the subject's place stands before them.
+#[repr(C)]
+#[derive(Clone, Copy, Debug, Default, PartialEq, Eq)]
+pub struct Move {
+    pub number: u64,
+    pub first: u64,
+    pub second: u64,
+    pub third: u64,
+    pub fourth: u64,
+}
+
 /// So many 64-bit numbers.
 const fn numbers(count: usize) -> usize {
     count * size_of::<u64>()
@@ -124,4 +136,5 @@ const _: () = {
     assert!(size_of::<Resolved>() == numbers(9));
     assert!(size_of::<Verdict>() == numbers(5));
     assert!(size_of::<MadeText>() == numbers(3));
+    assert!(size_of::<Move>() == numbers(5));
 };
