@@ -16,6 +16,13 @@ pub struct Options {
     pub subjects: Option<usize>,
 }
 
+/// A list, and the subjects of orders. Where there are none, they come from standard input.
+#[derive(Debug, PartialEq, Eq)]
+pub struct Orders {
+    pub list: OsString,
+    pub subjects: Vec<Vec<u8>>,
+}
+
 /// What is to be done.
 #[derive(Debug, PartialEq, Eq)]
 pub enum Command {
@@ -24,10 +31,8 @@ pub enum Command {
     Check {
         list: OsString,
     },
-    Route {
-        list: OsString,
-        subjects: Vec<Vec<u8>>,
-    },
+    Route(Orders),
+    Move(Orders),
     Tree {
         list: OsString,
     },
@@ -139,9 +144,9 @@ fn one(command: &str, what: &str, mut words: Vec<OsString>) -> Result<OsString, 
     }
 }
 
-fn route(mut words: Vec<OsString>) -> Result<Command, Trouble> {
+fn orders(command: &str, mut words: Vec<OsString>) -> Result<Orders, Trouble> {
     if words.is_empty() {
-        return Err(usage("yard route takes a list, and subjects".into()));
+        return Err(usage(format!("yard {command} takes a list, and subjects")));
     }
     let list = words.remove(0);
     if words.is_empty() && list == "-" {
@@ -150,7 +155,7 @@ fn route(mut words: Vec<OsString>) -> Result<Command, Trouble> {
         ));
     }
     let subjects = words.into_iter().map(bytes).collect();
-    Ok(Command::Route { list, subjects })
+    Ok(Orders { list, subjects })
 }
 
 fn crossing(words: Vec<OsString>) -> Result<Command, Trouble> {
@@ -216,7 +221,8 @@ fn parse(words: Vec<OsString>) -> Result<Command, Trouble> {
 fn command(name: &OsString, words: Vec<OsString>) -> Result<Command, Trouble> {
     match name.to_str() {
         Some("check") => one("check", "list", words).map(|list| Command::Check { list }),
-        Some("route") => route(words),
+        Some("route") => orders("route", words).map(Command::Route),
+        Some("move") => orders("move", words).map(Command::Move),
         Some("tree") => one("tree", "list", words).map(|list| Command::Tree { list }),
         Some("crossing") => crossing(words),
         Some("load") => load(words),
@@ -234,7 +240,7 @@ fn command(name: &OsString, words: Vec<OsString>) -> Result<Command, Trouble> {
 /// Refuses an option that the command does not have.
 fn check_options(command: &Command, options: &Options) -> Result<(), Trouble> {
     let tree = matches!(command, Command::Tree { .. });
-    let route = matches!(command, Command::Route { .. });
+    let routes = matches!(command, Command::Route(_) | Command::Move(_));
     let texts = matches!(command, Command::Texts { .. });
     let crossing = matches!(command, Command::Crossing { .. });
     let load = matches!(command, Command::Load { .. });
@@ -243,8 +249,8 @@ fn check_options(command: &Command, options: &Options) -> Result<(), Trouble> {
         (options.depth.is_some() && !tree, "--depth is for yard tree"),
         (options.under.is_some() && !tree, "--under is for yard tree"),
         (
-            options.verbose && !tree && !route && !crossing,
-            "--verbose is for yard route, yard tree and yard crossing",
+            options.verbose && !tree && !routes && !crossing,
+            "--verbose is for yard route, yard move, yard tree and yard crossing",
         ),
         (
             options.patterns && !two,
@@ -309,10 +315,18 @@ mod tests {
         let route = request(&["route", "-", "--", "--json"]).map(|request| request.command);
         assert_eq!(
             route,
-            Some(Command::Route {
+            Some(Command::Route(Orders {
                 list: "-".into(),
                 subjects: vec![b"--json".to_vec()]
-            })
+            }))
+        );
+        let whole_move = request(&["move", "-v", "l", "a", "b"]).map(|request| request.command);
+        assert_eq!(
+            whole_move,
+            Some(Command::Move(Orders {
+                list: "l".into(),
+                subjects: vec![b"a".to_vec(), b"b".to_vec()]
+            }))
         );
         let crossing = request(&["crossing", "l"]).map(|request| request.command);
         assert_eq!(
@@ -348,6 +362,10 @@ mod tests {
             &["rout", "a"],
             &["route"],
             &["route", "-"],
+            &["move"],
+            &["move", "-"],
+            &["move", "a", "--depth", "3"],
+            &["move", "a", "--subjects", "3"],
             &["tree", "a", "--depth"],
             &["tree", "a", "--depth", "x"],
             &["check", "a", "--jason"],

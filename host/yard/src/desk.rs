@@ -1,8 +1,12 @@
 //! Where orders go by a list, and which of its lines say so.
 use crate::list::Line;
+use crate::list_file::ListFile;
 use crate::tables::Tables;
 use crate::tree_words::Words;
-use router::{resolve_single_home, table_words, Refusal, Resolution, Snapshot, Table};
+use crate::trouble::{Status, Trouble};
+use router::{resolve_single_home, table_words, Refusal, Resolution, Snapshot, Table, WholeMove};
+use std::ffi::OsStr;
+use std::io::Write;
 
 /// What becomes of an order.
 pub struct Order<'d, 'f> {
@@ -47,13 +51,13 @@ pub struct Desk<'d, 'f> {
 }
 
 /// The words of the area in which the table of a list stands.
-pub fn area_for(tables: &Tables) -> Vec<u32> {
+fn area_for(tables: &Tables) -> Vec<u32> {
     vec![0; table_words(tables.targets.nodes, tables.targets.targets)]
 }
 
 impl<'d, 'f> Desk<'d, 'f> {
     /// The table of targets stands in a lent area.
-    pub fn new(
+    fn new(
         lines: &'d [Line<'f>],
         tables: &'d Tables,
         area: &'d mut [u32],
@@ -67,16 +71,56 @@ impl<'d, 'f> Desk<'d, 'f> {
         })
     }
 
-    /// Where an order goes, by the router's verdict on the table of targets. The lines that match come from the table of places.
+    /// Where an order goes, by the router's verdict on the table of targets.
     pub fn order(&mut self, subject: &[u8]) -> Result<Order<'_, 'f>, Refusal> {
         let verdict = resolve_single_home(&self.snapshot, subject, &mut self.target_room)?;
+        self.explained(subject, verdict.resolution)
+    }
+
+    /// Where the orders of a whole move go, by the router's answer on the table of targets.
+    pub fn whole_move<'o>(
+        &self,
+        bytes: &[u8],
+        spans: &[[usize; 2]],
+        out: &'o mut [u32],
+    ) -> Result<WholeMove<'o>, Refusal> {
+        router::whole_move(&self.snapshot, bytes, spans, out)
+    }
+
+    /// A verdict on a subject with the lines that match it. They come from the table of places, which has the same nodes.
+    pub fn explained(
+        &mut self,
+        subject: &[u8],
+        resolution: Resolution,
+    ) -> Result<Order<'_, 'f>, Refusal> {
         let found = self.places.match_into(subject, &mut self.place_room)?;
         Ok(Order {
-            resolution: verdict.resolution,
-            peak: verdict.peak,
+            resolution,
+            peak: found.peak,
             words: Words::new(self.places),
             places: found.list,
             lines: self.lines,
         })
     }
+}
+
+/// Does the work of a command at the desk of a list, or says why the list is refused.
+pub fn at_desk<W: Write>(
+    list: &OsStr,
+    json: bool,
+    out: &mut W,
+    work: impl FnOnce(Desk<'_, '_>, &mut W) -> Result<Status, Trouble>,
+) -> Result<Status, Trouble> {
+    let file = ListFile::read(list)?;
+    let loaded = file.load();
+    let Some(tables) = &loaded.tables else {
+        loaded.tell_refusal(&file.name, json, out)?;
+        return Ok(Status::Refused);
+    };
+    let mut area = area_for(tables);
+    let desk = Desk::new(&loaded.lines, tables, &mut area).map_err(|e| Trouble::File {
+        name: file.name.clone(),
+        reason: e.to_string(),
+    })?;
+    work(desk, out)
 }

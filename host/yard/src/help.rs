@@ -5,6 +5,7 @@ yard: checks a yard's binding list, routes orders by it, and shows why.
 
   yard check LIST                     is the list accepted, and how much room is left
   yard route LIST [SUBJECT..]         where each order goes, and which lines of the list say so
+  yard move LIST [SUBJECT..]          where all orders of a move go, or which one holds them up
   yard tree LIST                      the table that is built from the list, drawn as a tree
   yard crossing LIST                  which lines can meet in one order, which is then Ambiguous
   yard crossing LIST PATTERN          which lines a new line with this pattern would meet
@@ -23,8 +24,8 @@ it is one anywhere.
 
 Options
   --json          answers for programs: one JSON object a line (not for texts)
-  --verbose, -v   route: the peak, and every matching line of an ambiguous order; tree: node numbers;
-                  crossing LIST: every pair of lines, with its order
+  --verbose, -v   route, move: the peak, and every matching line of an ambiguous order; tree: node
+                  numbers; crossing LIST: every pair of lines, with its order
   --patterns      crossing: both words are patterns, whatever files there are
   --depth N       tree: no more than N tokens deep
   --under TOKENS  tree: only what lies below these tokens, as yard.north or yard.*
@@ -47,6 +48,11 @@ Verdicts: `Routed to N`, exactly one line matches; `NoStream`, none does, and th
 `Ambiguous`, several do, and the order goes nowhere. Matching lines are shown in the router's order:
 those ending in > first, the shorter first; then the others; a name before *; equal patterns as listed.
 
+A move has 64 orders at the most, and half a move is worse than none: either all of them are routed, or
+none goes out. The first order that is NoStream or Ambiguous holds the move up, and those behind it are
+not looked at. But all subjects are read before any order is routed, and the first that is refused holds
+the move up, whatever the verdicts are.
+
 Two lines meet where both match one order. It is Ambiguous even if they have the same target. An order
 that crossing shows is one example: no order that both match is shorter, and further lines may match it.
 
@@ -61,14 +67,14 @@ on. LINES is 2048 at the most; N has no limit. The same numbers give the same lo
 It is for times and comparisons, and no yard: a line as > matches every order, so nearly all of them
 are Ambiguous.
 
-Refusals are shown with the number and name of the router's rules. Lines, tokens and bytes are
-counted from 1.
+Refusals are shown with the number and name of the router's rules. Lines, tokens, bytes and the orders
+of a move are counted from 1.
 
 Exit status
   0   the list is accepted; every subject is routed; every text is accepted; the pattern matches;
       no order can meet two lines, the new line and another, or both patterns; the load is written
-  1   some subject is not routed (NoStream, Ambiguous or refused); a text is refused; no match;
-      crossing shows an order
+  1   some subject is not routed (NoStream, Ambiguous or refused); a move is held up or refused; a text
+      is refused; no match; crossing shows an order
   2   the list is refused, a text of matches or crossing, or the start of a load; the command line is
       wrong, or a file cannot be read or written
 ";

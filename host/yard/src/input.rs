@@ -1,12 +1,16 @@
 //! Files, and subjects from standard input.
+use crate::progress::ask_for;
 use crate::trouble::Trouble;
 use router::MAX_TEXT;
 use std::ffi::OsStr;
 use std::fs::File;
-use std::io::{self, BufRead, Read};
+use std::io::{self, BufRead, BufReader, Read, StdinLock, Write};
 
 /// The most bytes that a file may have.
 const MOST: u64 = 64 << 20;
+
+/// Bytes of subjects that are read at once.
+const BUFFER: usize = 1 << 16;
 
 /// The name of a file for messages.
 pub fn name_of(file: &OsStr) -> String {
@@ -48,6 +52,19 @@ pub struct InputLine {
 }
 
 impl InputLine {
+    /// A text that was not cut.
+    pub fn whole(text: &[u8]) -> InputLine {
+        InputLine {
+            text: text.to_vec(),
+            cut: false,
+        }
+    }
+
+    /// Whether the line is passed over: it is empty or a comment.
+    fn is_passed_over(&self) -> bool {
+        matches!(self.text.first(), None | Some(b'#'))
+    }
+
     fn keep(&mut self, bytes: &[u8]) {
         // Two more than a text has: one that shows it is too long, and a carriage return.
         let room = (MAX_TEXT + 2).saturating_sub(self.text.len());
@@ -57,7 +74,7 @@ impl InputLine {
 }
 
 /// The next line without its end, or none at the end of the input.
-pub fn next_line(reader: &mut impl BufRead) -> io::Result<Option<InputLine>> {
+fn next_line(reader: &mut impl BufRead) -> io::Result<Option<InputLine>> {
     let mut line = InputLine::default();
     let mut begun = false;
     loop {
@@ -76,6 +93,37 @@ pub fn next_line(reader: &mut impl BufRead) -> io::Result<Option<InputLine>> {
         line.text.pop();
     }
     Ok(begun.then_some(line))
+}
+
+/// Subjects from standard input, one a line.
+pub struct Subjects {
+    reader: BufReader<StdinLock<'static>>,
+}
+
+impl Subjects {
+    pub fn from_input() -> Subjects {
+        ask_for("subjects");
+        Subjects {
+            reader: BufReader::with_capacity(BUFFER, io::stdin().lock()),
+        }
+    }
+
+    /// The next subject, or none at the end. Whoever waits for the answers in `out` gets them before more is read.
+    pub fn next(&mut self, out: &mut impl Write) -> Result<Option<InputLine>, Trouble> {
+        loop {
+            if !self.reader.buffer().contains(&b'\n') {
+                out.flush()?;
+            }
+            let line = next_line(&mut self.reader).map_err(|e| Trouble::File {
+                name: "standard input".into(),
+                reason: format!("cannot be read: {e}"),
+            })?;
+            match line {
+                Some(line) if line.is_passed_over() => {}
+                subject => return Ok(subject),
+            }
+        }
+    }
 }
 
 #[cfg(test)]

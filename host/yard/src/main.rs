@@ -1,6 +1,7 @@
 //! The command for a yard's binding list. `yard --help` says what it does.
 #![forbid(unsafe_code)]
 
+mod answers;
 mod check;
 mod command_line;
 mod crossing;
@@ -26,6 +27,7 @@ mod texts;
 mod tree;
 mod tree_words;
 mod trouble;
+mod whole_move;
 
 use command_line::{Command, Request};
 use std::io::{self, BufWriter, Write};
@@ -45,7 +47,8 @@ fn run(request: &Request, out: &mut impl Write) -> Result<Status, Trouble> {
             Ok(writeln!(out, "yard {}", env!("CARGO_PKG_VERSION")).map(|()| Status::Good)?)
         }
         Command::Check { list } => check::run(list, options, out),
-        Command::Route { list, subjects } => route::run(list, subjects, options, out),
+        Command::Route(orders) => route::run(orders, options, out),
+        Command::Move(orders) => whole_move::run(orders, options, out),
         Command::Tree { list } => tree::run(list, options, out),
         Command::Crossing { first, second } => {
             crossing::run(first, second.as_deref(), options, out)

@@ -19,6 +19,7 @@ fn help_and_version() {
     for word in [
         "check",
         "route",
+        "move",
         "tree",
         "crossing",
         "--patterns",
@@ -111,9 +112,11 @@ fn every_fault_with_its_line() {
         let line = format!("{}{fault}", list.name());
         assert!(said.out.contains(&line), "{line}");
     }
-    let routed = yard(&["route", list.name(), "a"]);
-    assert_eq!((routed.status, routed.out.as_str()), (2, ""));
-    assert!(routed.err.contains(":3: refused (6 EmptyToken)"));
+    for command in ["route", "move"] {
+        let said = yard(&[command, list.name(), "a"]);
+        assert_eq!((said.status, said.out.as_str()), (2, ""));
+        assert!(said.err.contains(":3: refused (6 EmptyToken)"));
+    }
 }
 
 #[test]

@@ -187,7 +187,7 @@ fn check() {
 #[test]
 fn a_refused_list() {
     let list = list_of("a..b 1\nc\n");
-    for command in ["check", "tree", "crossing"] {
+    for command in ["check", "move", "tree", "crossing"] {
         let said = yard(&[command, "--json", list.name()]);
         assert_eq!((said.status, said.err.as_str()), (2, ""));
         let told = &read(&said.out)[0];
@@ -222,6 +222,60 @@ fn route() {
     assert_eq!(told[2].at("verdict").text(), "Refused");
     assert_eq!(told[2].at("refusal").at("name").text(), "EmptyToken");
     assert_eq!(told[3].at("subject").text(), "\"\\\u{85}");
+}
+
+/// What `--json` says of a move by the row.
+fn moved(subjects: &[&str], status: i32) -> Value {
+    let list = list_of(ROW);
+    let input = subjects.join("\n");
+    let said = yard_with_input(&["move", "--json", list.name()], input.as_bytes());
+    assert_eq!((said.status, said.err.as_str()), (status, ""));
+    let mut told = read(&said.out);
+    assert_eq!(told.len(), 1);
+    told.remove(0)
+}
+
+#[test]
+fn a_move_that_is_routed() {
+    let told = moved(&["c", "a", "c.d"], 0);
+    let routed = told.at("routed");
+    assert_eq!(routed.numbers("target"), [2, 2, 2]);
+    let [c, a, _] = routed.array() else {
+        panic!("three orders");
+    };
+    assert_eq!((c.at("subject").text(), a.at("subject").text()), ("c", "a"));
+    assert_eq!(a.at("verdict").text(), "Routed");
+    assert_eq!(a.at("lines").numbers("line"), [2]);
+    assert_eq!(moved(&[], 0).at("routed"), &Value::Array(vec![]));
+}
+
+#[test]
+fn a_move_that_is_held_up() {
+    let told = moved(&["c", "d", "a.b", "c.b"], 1);
+    let stopped = told.at("stopped");
+    assert_eq!(stopped.at("place").number(), 3);
+    assert_eq!(stopped.at("subject").text(), "a.b");
+    assert_eq!(stopped.at("verdict").text(), "Ambiguous");
+    assert_eq!(stopped.at("matched").number(), 5);
+    assert_eq!(stopped.at("lines").numbers("line"), [2, 4, 1, 5, 3]);
+}
+
+#[test]
+fn a_move_that_is_refused() {
+    let told = moved(&["a.b", "c", "c."], 1);
+    let refused = told.at("refused");
+    assert_eq!(refused.at("place").number(), 3);
+    assert_eq!(refused.at("subject").text(), "c.");
+    assert_eq!(refused.at("refusal").at("number").number(), 6);
+    assert_eq!(refused.at("refusal").at("name").text(), "EmptyToken");
+    let sentence = refused.at("refusal").at("sentence").text();
+    assert!(sentence.starts_with("subject 3 (counted from 1): token 2 "));
+    let told = moved(&["a", &"a".repeat(5000)], 1);
+    assert_eq!(told.at("refused").at("cut"), &Value::Flag(true));
+    let told = moved(&["c"; 65], 1);
+    let refusal = told.at("refused").at("refusal");
+    assert_eq!(refusal.at("number").number(), 22);
+    assert_eq!(refusal.at("name").text(), "SetTooLarge");
 }
 
 #[test]
