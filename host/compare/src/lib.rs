@@ -7,6 +7,7 @@ pub mod model_binding;
 pub mod model_cache;
 pub mod model_crossing;
 pub mod model_load;
+pub mod model_move;
 pub mod model_snapshot;
 pub mod original;
 pub mod original_calls;

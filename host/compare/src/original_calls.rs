@@ -1,4 +1,5 @@
 //! The original's snapshot, cache and verdict on bytes. A refusal of the subject is the answer, and the original is then not called further.
+use crate::model_move::Due;
 use crate::model_snapshot::answer;
 use crate::original::subject;
 use oracle::binding::{self, Resolution};
@@ -74,4 +75,23 @@ pub fn resolve_single_home_cached(
             cache, snapshot, &subject,
         ))
     }))
+}
+
+/// `resolve_single_home` of one subject after the other: all targets, or the first subject that is not Routed. The original has no whole move; a subject that it
+/// refuses ends this one before any verdict.
+pub fn whole_move(snapshot: &SublistSnapshot<u32>, subjects: &[&[u8]]) -> Due {
+    let verdict = |bytes: &&[u8]| resolve_single_home(snapshot, bytes);
+    let verdicts: Vec<Answer> = subjects.iter().map(verdict).collect();
+    if let Some(place) = verdicts.iter().position(|told| !told.accepted()) {
+        let refusal = verdicts[place];
+        return Due::Refused { place, refusal };
+    }
+    match verdicts.iter().position(|told| told.first != 1) {
+        None => Due::Routed(verdicts.iter().map(|told| told.second as u32).collect()),
+        Some(place) => Due::Stopped {
+            place,
+            kind: verdicts[place].first,
+            value: verdicts[place].second,
+        },
+    }
 }

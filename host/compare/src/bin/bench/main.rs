@@ -3,11 +3,12 @@
 //! bench [ROUNDS]
 //! Each call counts by its fastest of so many rounds of about a millisecond. The lines are those of a Markdown table.
 //! Both sides get bytes and check that they are UTF-8; under `known text` the original gets what is known to be UTF-8.
-//! The rows on a made list and on the worst tables are tables of their own. So are those on crossings and on making texts, which the original does not have:
+//! The rows on a made list, on the worst tables and on whole moves are tables of their own. So are those on crossings and on making texts, which the original does not have:
 //! they stand beside the models written out in Rust. That of crossings parses with the original.
 mod caches;
 mod crossings;
 mod made;
+mod moves;
 mod row;
 mod snapshots;
 mod tables;
@@ -60,6 +61,9 @@ fn main() {
     caches::rows(rounds, &large_yard, &matched, &many);
     let long_lists = Yard::new(&lists::yard(&mut Random::new(1_600), 1_600));
     caches::long_lists(rounds, &long_lists, &matched);
+    println!();
+    row::heading("call on several subjects", row::ONE_BY_ONE);
+    moves::rows(rounds, &large_yard, &matched);
     println!();
     row::heading("call on a made list", row::ORIGINAL);
     made::rows(rounds);

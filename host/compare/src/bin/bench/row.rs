@@ -16,6 +16,9 @@ const TIME: usize = 10;
 pub const ORIGINAL: &[&str] = &["original", "known text"];
 pub const MODEL: &[&str] = &["model"];
 
+/// What stands beside a whole move: the original's verdicts on one subject after the other, and the router's own.
+pub const ONE_BY_ONE: &[&str] = &["original", "one by one"];
+
 /// A call on an input, timed. What it gives is only there to be computed.
 pub type Call<'a, T> = &'a dyn Fn(&T) -> u64;
 

@@ -38,7 +38,7 @@ pub fn verdicts(rounds: usize, name: &str, yard: &Yard, subjects: &[String]) {
         rounds,
         subjects,
         &[
-            &|text| ours.borrow_mut().verdict(text),
+            &|text| ours.borrow_mut().verdict(text).kind,
             &|text| original_calls::resolve_single_home(&snapshot, text.as_bytes()).first,
             &|text| {
                 let verdict = binding::resolve_single_home(&snapshot, &known(text));

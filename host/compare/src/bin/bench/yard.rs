@@ -103,9 +103,9 @@ impl Ours {
         raw::snapshot_match(self.snapshot, &self.area, subject, &mut self.out).first
     }
 
-    pub fn verdict(&mut self, subject: &str) -> u64 {
+    pub fn verdict(&mut self, subject: &str) -> raw::Verdict {
         let subject = subject.as_bytes();
-        raw::resolve_single_home(self.snapshot, &self.area, subject, &mut self.out).kind
+        raw::resolve_single_home(self.snapshot, &self.area, subject, &mut self.out)
     }
 
     pub fn resolve(&mut self, call: Resolve, subject: &str) -> u64 {

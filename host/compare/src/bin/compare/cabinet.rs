@@ -3,6 +3,7 @@
 mod cache_calls;
 mod snapshot_calls;
 
+use crate::moves::Subjects;
 use crate::tally::Tally;
 use crate::theirs::{Numbers, Theirs};
 pub use cache_calls::{Ask, Form};
@@ -53,6 +54,11 @@ enum Call {
         subject: Vec<u8>,
         places: usize,
     },
+    /// A whole move of these subjects, with so many places for their targets.
+    Moved {
+        subjects: Subjects,
+        places: usize,
+    },
 }
 
 impl Call {
@@ -84,6 +90,10 @@ impl Call {
                 let on = on.map_or(String::new(), |on| format!(" on cache {on}"));
                 let subject = subject.escape_ascii();
                 format!("  {name}{on} of \"{subject}\", {places} places\n")
+            }
+            Call::Moved { subjects, places } => {
+                let subjects = subjects.shown();
+                format!("  whole_move of {subjects}, {places} places\n")
             }
         }
     }

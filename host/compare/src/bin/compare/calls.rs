@@ -2,6 +2,7 @@
 //! Ours is given any generation with a first table; the original's is built as 0.
 use crate::cabinet::{Ask, Cabinet, Cache, Form, Side, Standing};
 use crate::copies::Odd;
+use crate::moves;
 use crate::pools::{Pool, Pooled};
 use crate::seen;
 use crate::tables::fresh_words;
@@ -17,7 +18,7 @@ use router::raw::{self, CacheState};
 use std::mem::swap;
 
 /// A cabinet, the pool that its calls draw from, and the number there of the table that stands at hand, and of those that stand in the other snapshots.
-struct World {
+pub struct World {
     pool: Pool,
     cabinet: Cabinet,
     standing: usize,
@@ -132,7 +133,7 @@ fn fresh(
 
 impl World {
     /// Fresh snapshots, one and some others, and fresh caches on all sides.
-    fn new(
+    pub fn new(
         tally: &mut Tally,
         random: &mut Random,
         pool: Pool,
@@ -274,6 +275,24 @@ impl World {
     fn run(mut self, tally: &mut Tally, random: &mut Random, calls: usize) {
         for _ in 0..calls {
             self.call(tally, random);
+        }
+        self.cabinet.close(tally);
+    }
+
+    /// A whole move by the standing table.
+    fn whole_move(&mut self, tally: &mut Tally, random: &mut Random) {
+        let (tree, texts) = (&self.pool.tables[self.standing].tree, &self.pool.subjects);
+        let routed = moves::routed_by(tree, texts);
+        let (subjects, places) = moves::whole_move(random, texts, &routed);
+        self.cabinet.whole_move(tally, subjects, places);
+    }
+
+    /// Whole moves among all other calls, stores more often than else.
+    pub fn moves(mut self, tally: &mut Tally, random: &mut Random, calls: usize) {
+        self.store_once_in = 4;
+        for _ in 0..calls {
+            self.call(tally, random);
+            self.whole_move(tally, random);
         }
         self.cabinet.close(tally);
     }

@@ -122,7 +122,7 @@ fn any_count(random: &mut Random, count: usize) -> usize {
 }
 
 /// A built table with some words and counts changed.
-fn changed(random: &mut Random, table: &Lent) -> Lent {
+pub fn changed(random: &mut Random, table: &Lent) -> Lent {
     let mut changed = table.clone();
     for _ in 0..random.below(6) {
         let node = random.below(table.nodes.min(12));
@@ -161,13 +161,13 @@ pub fn drawn(random: &mut Random) -> Lent {
 }
 
 /// The 1,024 runs of ten tokens, whose ends get children among all nodes: frontiers around 1,024 and beyond.
-fn wide(tally: &mut Tally, random: &mut Random) {
+pub fn wide_tables(tally: &mut Tally, random: &mut Random) -> Vec<Lent> {
     let lines = runs_of_ten("");
     let Some(sides) = tables::build(tally, random, &lines) else {
         panic!("the 1,024 runs are refused");
     };
     let hash = original::token_hash(b"a") as u32;
-    for turn in 0..12 {
+    let changed = |turn: u32| {
         let mut table = sides.table().clone();
         let is_literal = |node: &usize| table.node_words[node * NODE_WORDS] == hash;
         let literals: Vec<usize> = (1..table.nodes).filter(is_literal).collect();
@@ -184,9 +184,20 @@ fn wide(tally: &mut Tally, random: &mut Random) {
                 table.node_words[end * NODE_WORDS + 2] = literals[index % literals.len()] as u32;
             }
         }
-        for tokens in [10, 11, 12] {
-            let subject = vec!["a"; tokens].join(".");
-            compare_words(tally, &table, subject.as_bytes(), 1024 * 12);
+        table
+    };
+    (0..12).map(changed).collect()
+}
+
+/// Subjects of as many `a` as such a run has, or more.
+pub fn wide_subjects() -> [Vec<u8>; 3] {
+    [10, 11, 12].map(|tokens| vec!["a"; tokens].join(".").into_bytes())
+}
+
+fn wide(tally: &mut Tally, random: &mut Random) {
+    for table in wide_tables(tally, random) {
+        for subject in wide_subjects() {
+            compare_words(tally, &table, &subject, 1024 * 12);
         }
     }
 }

@@ -17,6 +17,8 @@ mod hostile;
 mod kinds;
 mod limits;
 mod load;
+mod met;
+mod moves;
 mod options;
 mod output;
 mod parts;
@@ -52,6 +54,7 @@ fn whole(tally: &mut Tally, random: &mut Random) {
     words::run(tally, random);
     crossing::run(tally);
     load::run(tally, random);
+    moves::run(tally, random);
 }
 
 /// Those and the random parts, two at a time. Each has a seed of its own, so that what it does does not hang on when it is its turn.

@@ -1,6 +1,6 @@
 //! The random parts. Each is made of turns, and each turn has a seed of its own, by which it can be made again.
 use crate::tally::{Family, Tally};
-use crate::{byte_limit, calls, crossing, hostile, kinds, limits, load, states, texts};
+use crate::{byte_limit, calls, crossing, hostile, kinds, limits, load, moves, states, texts};
 use compare::random::Random;
 use std::time::{Duration, Instant};
 
@@ -16,7 +16,7 @@ pub struct Part {
 }
 
 /// How many there are.
-pub const COUNT: usize = 12;
+pub const COUNT: usize = 13;
 
 static PARTS: [Part; COUNT] = [
     Part {
@@ -114,6 +114,14 @@ static PARTS: [Part; COUNT] = [
         turns: 30_000,
         share: 200,
         turn: load::turn,
+    },
+    Part {
+        name: "move",
+        about: "whole moves on states and areas made by hand, and among all other calls",
+        family: Family::Moves,
+        turns: 2_500,
+        share: 250,
+        turn: moves::turn,
     },
 ];
 

@@ -114,11 +114,22 @@ fn long_subject(random: &mut Random, over: bool) -> Vec<u8> {
     subject
 }
 
+/// Those and two that are long: texts that are refused as subjects by each of the numbers 1 to 9 but 4.
+pub fn refused_texts() -> Vec<Vec<u8>> {
+    let short = REFUSED.iter().map(|text| text.to_vec());
+    short.chain([vec![b'a'; 4097], too_deep()]).collect()
+}
+
+/// A text of 33 tokens.
+fn too_deep() -> Vec<u8> {
+    ["a"; 33].join(".").into_bytes()
+}
+
 /// A text that is refused as a subject, by any of the numbers 1 to 9 but 4.
 fn refused_text(random: &mut Random) -> Vec<u8> {
     match random.below(REFUSED.len() + 2) {
         0 => vec![b'a'; 4097 + random.below(2)],
-        1 => ["a"; 33].join(".").into_bytes(),
+        1 => too_deep(),
         _ => random.pick(&REFUSED).to_vec(),
     }
 }
@@ -166,6 +177,23 @@ impl Pool {
         Pool {
             tables,
             subjects: subjects.collect(),
+        }
+    }
+
+    /// Lists as a yard has them, and a subject for each of their lines.
+    pub fn matched(tally: &mut Tally, random: &mut Random, most: usize) -> Pool {
+        let lists = (0..2 + random.below(2)).map(|_| {
+            let count = 1 + random.below(most);
+            lists::yard(random, count)
+        });
+        let lists: Vec<Vec<Line>> = lists.collect();
+        let patterns = lists.iter().flatten().map(|(pattern, _)| pattern);
+        let subjects = patterns.map(|pattern| lists::subject_of(pattern, random));
+        let subjects = subjects.collect();
+        let tables = lists.iter().map(|lines| Pooled::new(tally, lines));
+        Pool {
+            tables: tables.collect(),
+            subjects,
         }
     }
 

@@ -1,5 +1,7 @@
 //! What the inputs must bring up, each at least once: a kind that never came up means that the comparisons miss it.
-use crate::load::met::Met;
+use crate::load;
+use crate::met::Met;
+use crate::moves;
 use crate::theirs::Scope;
 use compare::made;
 use compare::model_cache::{Stage, Way};
@@ -49,6 +51,10 @@ const MADE_ANSWERS: [(&str, &[u64]); 2] = [
     (made::name(Kind::Pattern), &[0, 21, 28]),
     (made::name(Kind::Subject), &[0, 21, 28]),
 ];
+
+/// The answers that whole moves must give. No subject is refused as 4.
+const MOVE_ANSWERS: [(&str, &[u64]); 1] =
+    [(moves::NAME, &[0, 1, 2, 3, 5, 6, 7, 8, 9, 12, 19, 21, 22])];
 
 /// What else must happen, by name.
 pub const HIT: &str = "hits";
@@ -186,7 +192,9 @@ pub struct Seen {
     answers: BTreeMap<(&'static str, u64), u64>,
     ways: BTreeMap<&'static str, u64>,
     /// Tokens and outputs of made texts.
-    pub made: Met,
+    pub made: Met<(Kind, load::met::Event)>,
+    /// What whole moves came to, and at which place.
+    pub moves: Met<moves::met::Event>,
 }
 
 impl Seen {
@@ -209,6 +217,7 @@ impl Seen {
             *self.ways.entry(way).or_default() += count;
         }
         self.made.add(other.made);
+        self.moves.add(other.moves);
     }
 
     fn answered(&self, call: &'static str, number: u64) -> u64 {
@@ -257,7 +266,10 @@ impl Seen {
         let about = "crossings of two patterns";
         let crossings = self.report_on(about, &CROSSING_ANSWERS, &CROSSING_WAYS);
         let about = "made patterns and subjects";
-        let answers = self.report_on(about, &MADE_ANSWERS, &[]);
-        [calls, crossings, answers, self.made.report()].concat()
+        let made = self.report_on(about, &MADE_ANSWERS, &[]);
+        let made_met = load::met::report(&self.made);
+        let moves = self.report_on("whole moves", &MOVE_ANSWERS, &[]);
+        let moves_met = moves::met::report(&self.moves);
+        [calls, crossings, made, made_met, moves, moves_met].concat()
     }
 }

@@ -52,7 +52,7 @@ fn generation(random: &mut Random) -> u64 {
 }
 
 /// The words of a table with some behind them, or some too few.
-fn area_of(random: &mut Random, table: &Lent) -> Vec<u32> {
+pub fn area_of(random: &mut Random, table: &Lent) -> Vec<u32> {
     let mut area = [&table.node_words[..], &table.target_words].concat();
     area.extend(fresh_words(random.below(4)));
     if random.once_in(10) {
@@ -61,7 +61,7 @@ fn area_of(random: &mut Random, table: &Lent) -> Vec<u32> {
     area
 }
 
-fn any_snapshot(random: &mut Random, table: &Lent) -> SnapshotState {
+pub fn any_snapshot(random: &mut Random, table: &Lent) -> SnapshotState {
     SnapshotState {
         nodes: mostly(random, table.nodes as u64, 12) as usize,
         targets: mostly(random, table.targets as u64, 12) as usize,

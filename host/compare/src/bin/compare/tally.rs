@@ -10,8 +10,8 @@ use std::process::{exit, ExitCode};
 use std::time::Duration;
 
 /// The numbers that the inputs must bring up.
-const NUMBERS: [u64; 24] = [
-    0, 1, 2, 3, 4, 5, 6, 7, 8, 9, 10, 11, 12, 13, 14, 15, 16, 17, 18, 19, 20, 21, 28, 99,
+const NUMBERS: [u64; 25] = [
+    0, 1, 2, 3, 4, 5, 6, 7, 8, 9, 10, 11, 12, 13, 14, 15, 16, 17, 18, 19, 20, 21, 22, 28, 99,
 ];
 
 /// What comparisons are about.
@@ -22,6 +22,7 @@ pub enum Family {
     Calls,
     Crossings,
     Made,
+    Moves,
 }
 
 #[derive(Default)]
@@ -29,7 +30,7 @@ pub struct Tally {
     total: u64,
     reported: u64,
     /// Comparisons of each family.
-    families: [u64; 5],
+    families: [u64; 6],
     answers: BTreeMap<u64, u64>,
     /// Matches of a pattern that were answered by no and by yes.
     verdicts: [u64; 2],
@@ -38,7 +39,7 @@ pub struct Tally {
     pub matches: u64,
     pub largest_table: u64,
     pub largest_peak: u64,
-    /// Calls on snapshots and caches, crossings, and made texts.
+    /// Calls on snapshots and caches, crossings, made texts, and whole moves.
     pub seen: Seen,
     /// The random part that is being made, and the seed of its turn.
     turn: Option<(&'static str, u64)>,
@@ -105,7 +106,7 @@ impl Tally {
         *self.answers.entry(answer.number).or_default() += 1;
     }
 
-    /// A call on a snapshot or a cache, a crossing, or the making of a text gave an answer of this number.
+    /// A call on a snapshot or a cache, a crossing, the making of a text, or a whole move gave an answer of this number.
     pub fn called(&mut self, call: &'static str, number: u64) {
         *self.answers.entry(number).or_default() += 1;
         self.seen.answer(call, number);
@@ -209,7 +210,7 @@ impl Tally {
 
     /// Says what was met in all. An answer that never came up means that the inputs miss a rule, and fails.
     pub fn close(&self, took: Duration) -> ExitCode {
-        let [texts, tables, calls, crossings, made] = self.families;
+        let [texts, tables, calls, crossings, made, moves] = self.families;
         println!("{texts:>12} comparisons of texts and matches of patterns in all");
         println!("{tables:>12} comparisons of lists, tables and matches on them in all");
         println!("{calls:>12} comparisons of calls on snapshots and caches in all");
@@ -217,6 +218,7 @@ impl Tally {
         println!(
             "{made:>12} comparisons of made patterns and subjects, and of lists of them, in all"
         );
+        println!("{moves:>12} comparisons of whole moves in all");
         let [no, yes] = self.verdicts;
         println!("answers by number: {:?}", self.answers);
         println!("matches of a pattern: {yes} yes, {no} no");

@@ -1,5 +1,6 @@
 //! Calls on the snapshot.
 use super::{made_there, Cabinet, Call};
+use crate::moves::{self, Subjects};
 use crate::seen;
 use crate::tables::fresh_words;
 use crate::tally::Tally;
@@ -138,5 +139,15 @@ impl Cabinet {
         }
         tally.seen.way(seen::VERDICTS[due.kind as usize]);
         Some(due.peak)
+    }
+
+    /// A whole move. It changes nothing of the snapshot and its area.
+    pub fn whole_move(&mut self, tally: &mut Tally, subjects: Subjects, places: usize) {
+        self.meet();
+        let asked = subjects.asked(self.ours.snapshot, &self.ours.area);
+        let theirs = self.theirs.as_ref().map(|theirs| &theirs.snapshot);
+        moves::call(tally, asked, places, theirs, || self.shown());
+        self.same_area(tally);
+        self.calls.push(Call::Moved { subjects, places });
     }
 }

@@ -1,7 +1,7 @@
 //! What the calls that make texts must bring up, each at least once.
+use crate::met::Met;
 use compare::made;
 use compare::model_load::{Kind, KINDS, MOST_BYTES, MOST_TOKENS};
-use std::collections::BTreeMap;
 
 /// Outputs of up to so many bytes are lent, two more than any text has.
 pub const MOST_LENT: usize = MOST_BYTES + 2;
@@ -61,39 +61,14 @@ fn due(kind: Kind) -> [(&'static str, Vec<Event>); 3] {
     ]
 }
 
-/// How often each came up.
-#[derive(Default)]
-pub struct Met(BTreeMap<(Kind, Event), u64>);
-
-impl Met {
-    pub fn event(&mut self, kind: Kind, event: Event) {
-        *self.0.entry((kind, event)).or_default() += 1;
-    }
-
-    /// What others met, too.
-    pub fn add(&mut self, other: Met) {
-        for (event, count) in other.0 {
-            *self.0.entry(event).or_default() += count;
+/// Prints what came up. What never did, though it must.
+pub fn report(met: &Met<(Kind, Event)>) -> Vec<String> {
+    let mut missing = Vec::new();
+    for kind in KINDS {
+        for (about, events) in due(kind) {
+            let events = events.into_iter().map(|event| (kind, event));
+            missing.extend(met.report(made::name(kind), about, events.collect()));
         }
     }
-
-    /// Prints how often the rarest of each sort came up. What never came up, though it must.
-    pub fn report(&self) -> Vec<String> {
-        let mut missing = Vec::new();
-        for kind in KINDS {
-            let call = made::name(kind);
-            let count = |event| self.0.get(&(kind, event)).copied().unwrap_or(0);
-            for (about, events) in due(kind) {
-                let rarest = events.iter().map(|&event| count(event)).min();
-                let rarest = rarest.unwrap_or(0);
-                println!(
-                    "{rarest:>12} {call}, the rarest of {} {about}",
-                    events.len()
-                );
-                let never = events.into_iter().filter(|&event| count(event) == 0);
-                missing.extend(never.map(|event| format!("{call} with {event:?}")));
-            }
-        }
-        missing
-    }
+    missing
 }

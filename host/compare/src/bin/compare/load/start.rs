@@ -51,10 +51,10 @@ impl Start {
     fn met(&self, tally: &mut Tally, kind: Kind, due: MadeText, length: usize) {
         let met = &mut tally.seen.made;
         if due.number == 28 {
-            return met.event(kind, Event::Zero { length });
+            return met.event((kind, Event::Zero { length }));
         }
         let bytes = due.value as usize;
-        met.event(kind, Event::Output { bytes, length });
+        met.event((kind, Event::Output { bytes, length }));
         if due.number == 0 {
             let count = self.token_count();
             for place in 1..=count {
@@ -64,7 +64,7 @@ impl Start {
                     place,
                     count,
                 };
-                met.event(kind, token);
+                met.event((kind, token));
             }
         }
     }
