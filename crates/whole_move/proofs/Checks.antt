@@ -2,25 +2,25 @@
 use Prim.Native.Nat.{ℕ, zero, suc, _+_, _-_, _*_, _/_, _≤_, _<_}
 use native.Mathlib.Omega.{arith}
 use mathlib.Core.Path.{_≡_, refl}
-use mathlib.Core.Bool.{Bool, true, false}
+use mathlib.Core.Bool.{false}
 use mathlib.Core.List.{List, [], _∷_}
 use mathlib.Core.Option.{Option, none, some}
 use denote.Enum.Declared.{tagOf}
 use types.Run.{OneOf, miss}
-use lib.Dec.{ltb}
-use borrow.Author.Tests.{lt-ltb, le-ltb, ltb-false}
+use borrow.Author.Tests.{lt-ltb, le-ltb}
 use lib.ListN.{length, getD, take, drop}
 use Rattle.subject.specs.declared.SubjectError.{SubjectError}
 use Rattle.subject.specs.declared.Parsed.{Parsed}
 use Rattle.subject.specs.declared.Parsed.the-variants.{Refused}
-use Rattle.subject_rules.specs.Choice.{pick}
 use Rattle.subject_rules.specs.Answers.{Answer, answer, whenAccepted}
 use Rattle.subject_rules.specs.Grammar.{grammar, firstOf}
 use Rattle.subject.specs.Answers.{refusal, parsed}
 use Rattle.subject.proofs.Refusals.{refused-stands}
-use Rattle.whole_move_rules.specs.Move.{Span, spansIn, textAt, withPlace, badText, badSubject, badSubjects}
+use Rattle.whole_move_rules.specs.Move.{spansIn, withPlace, badText, badSubject, badSubjects}
+use Rattle.whole_move_rules.specs.Asked.{Sound}
+use Rattle.whole_move_rules.proofs.Subjects.{passes-sound}
 use Rattle.whole_move.specs.declared.SubjectCheck.{SubjectCheck}
-use Rattle.whole_move.specs.declared.SubjectCheck.the-variants.{Sound, Outside, Invalid}
+use Rattle.whole_move.specs.declared.SubjectCheck.the-variants.{Sound as Passed, Outside, Invalid}
 use Rattle.whole_move.specs.Told.{span, checked, Accepted}
 use Rattle.whole_move.proofs.SubjectCheck.{the-type}
 use Rattle.whole_move.proofs.Spans.{spanAt, spans-on, spans-end}
@@ -54,7 +54,7 @@ module _ (bytes ws : List ℕ) (i : ℕ) (x : Option Answer) (e : badSubjects by
     checks-step : firstOf (checked c) (badSubjects bytes (i + 1) (spansIn (drop (2 * (i + 1)) ws))) ≡ x
     checks-step = rw q (rw (spans-on ws i h) at e)
 
-    pub checks-on : c ≡ Sound → badSubjects bytes (i + 1) (spansIn (drop (2 * (i + 1)) ws)) ≡ x
+    pub checks-on : c ≡ Passed → badSubjects bytes (i + 1) (spansIn (drop (2 * (i + 1)) ws)) ≡ x
     checks-on s = rw s at checks-step
 
     -- by its tag the check is not Sound
@@ -62,7 +62,7 @@ module _ (bytes ws : List ℕ) (i : ℕ) (x : Option Answer) (e : badSubjects by
     checks-bad t = go c t checks-step
       where
         go : (d : SubjectCheck) → OneOf (1 ∷ 2 ∷ []) (tagOf the-type d) → firstOf (checked d) (badSubjects bytes (i + 1) (spansIn (drop (2 * (i + 1)) ws))) ≡ x → checked d ≡ x
-        go Sound o s = absurd (miss (1 ∷ 2 ∷ []) 0 tt o)
+        go Passed o s = absurd (miss (1 ∷ 2 ∷ []) 0 tt o)
         go (Outside place) o s = s
         go (Invalid place error) o s = s
 
@@ -71,34 +71,19 @@ first-none : (a b : Option Answer) → firstOf a b ≡ none → (a ≡ none) × 
 first-none none b e = (refl, e)
 first-none (some a) b e = let z : _≡_ {A = ℕ} 0 1 = cc in absurd (omega arith)
 
-not-refused : (b : Bool) (r : Answer) (o : Option Answer) → pick b (some r) o ≡ none → (b ≡ false) × (o ≡ none)
-not-refused true r o e = let z : _≡_ {A = ℕ} 0 1 = cc in absurd (omega arith)
-not-refused false r o e = (refl, e)
-
-not-bad : (place : ℕ) (a : Answer) → badText place a ≡ none → (values : List ℕ) × (a ≡ answer 0 values)
-not-bad place (answer zero values) e = (values, refl)
-not-bad place (answer (suc n) values) e = let z : _≡_ {A = ℕ} 0 1 = cc in absurd (omega arith)
-
-module _ (bytes : List ℕ) (place : ℕ) (s : Span) (e : badSubject bytes place s ≡ none) where
-  sound : (ltb (length bytes) (s .start + s .length) ≡ false) × (badText place (grammar false (textAt bytes s)) ≡ none)
-  sound = not-refused (ltb (length bytes) (s .start + s .length)) (answer 12 (place ∷ [])) (badText place (grammar false (textAt bytes s))) e
-
-  inside : s .start + s .length ≤ length bytes
-  inside = ltb-false (length bytes) (s .start + s .length) (sound .0)
-
-  accepted : Accepted (textAt bytes s)
-  accepted = let t = not-bad place (grammar false (textAt bytes s)) (sound .1) in record { values = t .0; says = t .1 }
-
 module _ (bytes ws : List ℕ) (i : ℕ) (h : i < length ws / 2) (e : badSubjects bytes i (spansIn (drop (2 * i) ws)) ≡ none) where
   both : (badSubject bytes i (spanAt ws i) ≡ none) × (badSubjects bytes (i + 1) (spansIn (drop (2 * (i + 1)) ws)) ≡ none)
   both = first-none (badSubject bytes i (spanAt ws i)) (badSubjects bytes (i + 1) (spansIn (drop (2 * (i + 1)) ws))) (rw (spans-on ws i h) at e)
 
+  sound : Sound bytes (spanAt ws i)
+  sound = passes-sound bytes i (spanAt ws i) (both .0)
+
   -- subject i lies in the bytes
   pub sound-inside : getD ws (2 * i) 0 + getD ws (2 * i + 1) 0 ≤ length bytes
-  sound-inside = inside bytes i (spanAt ws i) (both .0)
+  sound-inside = sound .inside
 
   pub sound-accepted : Accepted (take (getD ws (2 * i) 0 + getD ws (2 * i + 1) 0 - getD ws (2 * i) 0) (drop (getD ws (2 * i) 0) bytes))
-  sound-accepted = rw (add-sub (getD ws (2 * i) 0) (getD ws (2 * i + 1) 0)) (accepted bytes i (spanAt ws i) (both .0))
+  sound-accepted = rw (add-sub (getD ws (2 * i) 0) (getD ws (2 * i + 1) 0)) (record { values = sound .values; says = sound .accepted })
 
   pub sound-on : badSubjects bytes (i + 1) (spansIn (drop (2 * (i + 1)) ws)) ≡ none
   sound-on = both .1

@@ -37,6 +37,13 @@ module _ (bytes : List ℕ) where
       go false e (answer zero values) q = inl (record { inside = ltb-false _ _ e; values = values; accepted = q })
       go false e (answer (suc n) values) q = inr (answer (suc n) (place ∷ values), textRefused n values (ltb-false _ _ e) q refl)
 
+  pub passes-sound : (place : ℕ) (x : Span) → badSubject bytes place x ≡ none → Sound bytes x
+  passes-sound place x e = go (subject-is place x)
+    where
+      go : Sound bytes x ⊎ ((r : Answer) × OwnRefusal bytes x place r) → Sound bytes x
+      go (inl s) = s
+      go (inr o) = let q : some (o .0) ≡ none = sym (own-refuses place x (o .0) (o .1)) ∙ e in let z : _≡_ {A = ℕ} 0 1 = cc in absurd (omega arith)
+
   -- all of them
   pub all-pass : (place : ℕ) (xs : List Span) → All (Sound bytes) xs → badSubjects bytes place xs ≡ none
   all-pass place [] a = refl
