@@ -7,7 +7,8 @@ use mathlib.Core.List.{List, [], _∷_, map}
 use lib.Dec.{eqb}
 use borrow.Author.Tests.{eqb-true, eqb-false}
 use Rattle.subject_rules.specs.Choice.{and}
-use Rattle.subject.specs.Spelling.{spell, Bytes}
+use Rattle.subject.specs.Words.{spell}
+use Rattle.subject.specs.Spelling.{Bytes}
 
 -- each byte gives a byte
 abbrev pub Small : (ℕ → ℕ) → Type 0

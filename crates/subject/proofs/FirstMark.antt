@@ -8,7 +8,8 @@ use lib.Count.{trailingZeros}
 use lib.ListN.{length, take, drop, length-take, length-drop}
 use lib.Seq.{drop-drop}
 use Rattle.subject_rules.specs.Choice.{pick}
-use Rattle.subject.specs.Spelling.{spell, isDot, mark, marks}
+use Rattle.subject.specs.Words.{spell}
+use Rattle.subject.specs.Spelling.{isDot, mark, marks}
 use Rattle.subject.specs.Reading.{untilDot, dotFrom}
 
 -- one binary digit

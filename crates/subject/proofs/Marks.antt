@@ -8,7 +8,8 @@ use lib.Dec.{eqb}
 use lib.ListN.{length, replicate}
 use lib.Bits.{bitAnd, bitOr, bitXor, and-block, or-block, xor-block, and-lt, or-lt, xor-lt, and-le-r}
 use borrow.Author.Tests.{eqb-true}
-use Rattle.subject.specs.Spelling.{spell, Bytes, isDot, isBarred, mark, marks}
+use Rattle.subject.specs.Words.{spell}
+use Rattle.subject.specs.Spelling.{Bytes, isDot, isBarred, mark, marks}
 use Rattle.subject.proofs.Bytewise.{Small, bytewise, sums, upTo, tested}
 use Rattle.subject.proofs.Spelled.{Eight}
 

@@ -9,7 +9,8 @@ use lib.Bits.{bitAnd, bitOr, and-block, and-comm, and-zero-r, and-le-l, and-le-r
 use lib.ListN.{length, take, drop, take-append-drop, length-take, length-drop}
 use lib.Seq.{take-add}
 use Rattle.subject_rules.specs.Choice.{and, or}
-use Rattle.subject.specs.Spelling.{spell, isDot, isBarred, mark, marks}
+use Rattle.subject.specs.Words.{spell}
+use Rattle.subject.specs.Spelling.{isDot, isBarred, mark, marks}
 use Rattle.subject.specs.Plain.{one, plainFrom}
 use Rattle.subject.proofs.Bytewise.{digit}
 

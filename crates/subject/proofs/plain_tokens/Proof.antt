@@ -30,6 +30,9 @@ shared-slice-read-if3 c = search needs
 returns-3 : tie.Need-returns-3 Inv-loop μ-loop
 returns-3 c = λ n wild. absurd (n refl)
 
+returns-4 : tie.Need-returns-4 Inv-loop μ-loop
+returns-4 c = λ n wild. absurd (n refl)
+
 loop-holds : tie.Need-loop-holds Inv-loop μ-loop
 loop-holds c = seen-none _
 
@@ -63,17 +66,17 @@ loop-again c =
     let l = d .before .before in
     seen-eight _ _ _ _ (l .loop .i) (l .loop .inv) (omega (arith, l .loop .inv .within)) _ _ (d .dots-at .ensures) (c .barred-at .ensures)
 
-returns-4 : tie.Need-returns-4 Inv-loop μ-loop
-returns-4 c = λ n wild. absurd (n refl)
+returns-5 : tie.Need-returns-5 Inv-loop μ-loop
+returns-5 c = λ n wild. absurd (n refl)
 
 plain-rest-requires : tie.Need-plain-rest-requires Inv-loop μ-loop
 plain-rest-requires c κs = (omega arith, count-fits _ _ _ _ _ (c .before .before .loop .inv) (omega arith))
 
-returns-5 : tie.Need-returns-5 Inv-loop μ-loop
-returns-5 c =
+returns-6 : tie.Need-returns-6 Inv-loop μ-loop
+returns-6 c =
     let e = c .before in
     let l = e .before .before in
-    plain-accepted _ _ (c .plain-rest .ensures ∙ seen-rest _ _ _ _ _ (l .loop .inv) (omega arith) (e .if4 .left)) (omega arith)
+    plain-accepted _ _ (c .plain-rest .ensures ∙ seen-rest _ _ _ _ _ (l .loop .inv) (omega arith) (e .if5 .left)) (omega arith)
 
 pub plain-tokens-spec : {M : Type 1} → statement M
 plain-tokens-spec =
@@ -86,6 +89,8 @@ plain-tokens-spec =
     sub-if3
     shared-slice-read-if3
     returns-3
+    (λ c κs. search needs)
+    returns-4
     loop-holds
     sub-loop
     dots-at-requires
@@ -95,6 +100,6 @@ plain-tokens-spec =
     add-i
     loop-less
     loop-again
-    returns-4
+    returns-5
     plain-rest-requires
-    returns-5)
+    returns-6)
