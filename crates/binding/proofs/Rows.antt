@@ -16,6 +16,7 @@ use Rattle.sublist_rules.specs.Building.{needed, worstOf, buildSays}
 use Rattle.sublist_rules.specs.Passes.{counted, joined, lineIn, linesIn, told, settled, laidAt, laid, filledBy, filled}
 use Rattle.sublist_rules.specs.Leaving.{buildLeaves}
 use Rattle.sublist_snapshot.specs.Snapshot.{make, storeIn, matchIn}
+use Rattle.resolve_cache_rules.specs.Mark.{hashFrom, mark}
 use Rattle.resolve_cache_rules.specs.Cache.{withCapacity, clear, resolve}
 use Rattle.resolve_cache_rules.specs.Rows.{Row as CacheRow, holds as holdsLent, rows as cacheRows}
 use Rattle.resolve_cache_rules.proofs.Rows.{rows-hold as cache-rows}
@@ -24,7 +25,7 @@ use Rattle.binding.specs.Timetable.{Row, text, lent, holds, callRows, ti
 
 -- the rows with calls compute: two of routes, three of calls, two of caches
 call-rows : All holds callRows
-unfolding callRows sequence firstBad fnv fnvFrom grammar worst seek literalChild starChild added placed childOrNew onward grown planted collect push visit visits arrived onToken onTokens exact listed ended walkOver matchTable needed worstOf buildSays counted joined lineIn linesIn told settled laidAt laid filledBy filled buildLeaves make storeIn matchIn withCapacity clear resolve resolveSingleHome resolveSingleHomeCached
+unfolding callRows sequence firstBad fnv fnvFrom grammar worst seek literalChild starChild added placed childOrNew onward grown planted collect push visit visits arrived onToken onTokens exact listed ended walkOver matchTable needed worstOf buildSays counted joined lineIn linesIn told settled laidAt laid filledBy filled buildLeaves make storeIn matchIn hashFrom mark withCapacity clear resolve resolveSingleHome resolveSingleHomeCached
 call-rows = (
   (refl, record { snapshotMade = refl; cachesMade = λ i. (1, refl) }, refl),
   (

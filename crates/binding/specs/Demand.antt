@@ -168,13 +168,13 @@ SnapshotRight t area =
     (make t area) .says
     ≡ pick (ltb (length area) (wordsOf t)) (answer 20 []) (answer 0 (t .nodes ∷ t .targets ∷ 0 ∷ 1 ∷ []))
 
--- 17: "capacity over 1,024, or the lent cache store is smaller than capacity slots"; a slot takes three numbers, 256
--- bytes and 16 targets
+-- 17: "capacity over 1,024, or the lent cache store is smaller than capacity slots"; a slot takes a stamp, 260 bytes
+-- and 16 targets
 abbrev pub cacheShort : ℕ → Area → Bool
 cacheShort capacity a =
     or (ltb 1024 capacity)
-    (or (ltb (length (a .heads)) (3 * capacity))
-    (or (ltb (length (a .keys)) (256 * capacity))
+    (or (ltb (length (a .stamps)) capacity)
+    (or (ltb (length (a .keys)) (260 * capacity))
     (ltb (length (a .kept)) (16 * capacity))))
 
 -- the making of a cache is refused exactly so; "`with_capacity` turns 0 into 1"; "A fresh cache has generation, tick

@@ -53,7 +53,7 @@ wordsFor t = replicate (lengthOf t) 0
 
 abbrev pub slots : ℕ → Area
 slots capacity =
-    record { heads = replicate (3 * capacity) 0; keys = replicate (256 * capacity) 0; kept = replicate (16 * capacity) 0 }
+    record { stamps = replicate capacity 0; keys = replicate (260 * capacity) 0; kept = replicate (16 * capacity) 0 }
 
 abbrev pub cabinet : ℕ → Table → Cabinet
 cabinet capacity t = record {
@@ -72,12 +72,12 @@ leaving b [] = b
 leaving b (c ∷ cs) = leaving (after b c) cs
 
 -- the subjects that a cache keeps lists for, slot by slot
-abbrev pub keysFrom : Area → ℕ → ℕ → List (List ℕ)
-keysFrom a i zero = []
-keysFrom a i (suc n) = keyAt (a .heads) (a .keys) i ∷ keysFrom a (suc i) n
+abbrev pub keysFrom : ℕ → List ℕ → ℕ → ℕ → List (List ℕ)
+keysFrom c keys i zero = []
+keysFrom c keys i (suc n) = keyAt c keys i ∷ keysFrom c keys (suc i) n
 
 abbrev pub subjectsIn : Kept → List (List ℕ)
-subjectsIn k = keysFrom (k .area) 0 (k .cache .used)
+subjectsIn k = keysFrom (k .cache .capacity) (k .area .keys) 0 (k .cache .used)
 
 -- calls with an output of sixteen places, on cache 0
 abbrev pub ask : String → Call

@@ -140,7 +140,7 @@ fn judge<'a>(answer: ResolveAnswer, kept: &'a [u32], out: &'a [u32]) -> CachedSi
 // The verdict on the list that a resolve hands back: 1 to 9, then 17, 18, 19 and 21.
 pub fn resolve_single_home_cached(
     cache: ResolveCache,
-    heads: &mut [u64],
+    stamps: &mut [u64],
     keys: &mut [u8],
     kept: &mut [u32],
     snapshot: Snapshot,
@@ -149,11 +149,11 @@ pub fn resolve_single_home_cached(
     out: &mut [u32],
 ) -> CachedResolution
     ensures { λ r. ⌜
-        cachedHomed r (lent (now (heads .exit)) (now (keys .exit)) (now (kept .exit))) (now (out .exit))
-        ≡ resolveSingleHomeCached cache (lent (now (heads .entry)) (now (keys .entry)) (now (kept .entry)))
+        cachedHomed r (lent (now (stamps .exit)) (now (keys .exit)) (now (kept .exit))) (now (out .exit))
+        ≡ resolveSingleHomeCached cache (lent (now (stamps .entry)) (now (keys .entry)) (now (kept .entry)))
         snapshot (now (area .entry)) (now (subject .entry)) (now (out .entry)) ⌝ }
 {
-    let resolved = resolve_cache::resolve(cache, heads, keys, kept, snapshot, area, subject, out);
+    let resolved = resolve_cache::resolve(cache, stamps, keys, kept, snapshot, area, subject, out);
     let cache = resolved.cache;
     let answer = resolved.answer;
     CachedResolution {

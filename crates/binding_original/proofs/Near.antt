@@ -24,9 +24,9 @@ use Rattle.binding_original.proofs.Maps.{each-at, Once}
 pub record Near (m : ℕ) (c : ResolveCache) (a : Area) (o : original.ResolveCache ℕ) : Type 0 where
   pub same : SameKept (record { cache = c; area = a }) o
   pub once : Once (o .entries)
-  pub apart : (i j : ℕ) → i < c .used → j < c .used → keyAt (a .heads) (a .keys) i ≡ keyAt (a .heads) (a .keys) j → i ≡ j
-  pub stamps : (i j : ℕ) → i < c .used → j < c .used → stampAt (a .heads) i ≡ stampAt (a .heads) j → i ≡ j
-  pub under : (i : ℕ) → i < c .used → stampAt (a .heads) i ≤ c .tick .0
+  pub apart : (i j : ℕ) → i < c .used → j < c .used → keyAt (c .capacity) (a .keys) i ≡ keyAt (c .capacity) (a .keys) j → i ≡ j
+  pub stamps : (i j : ℕ) → i < c .used → j < c .used → stampAt (a .stamps) i ≡ stampAt (a .stamps) j → i ≡ j
+  pub under : (i : ℕ) → i < c .used → stampAt (a .stamps) i ≤ c .tick .0
   pub low : c .tick .0 ≤ m
 
 pub near-later : (m : ℕ) (c : ResolveCache) (a : Area) (o : original.ResolveCache ℕ) → Near m c a o → Near (suc m) c a o

@@ -2,7 +2,7 @@
 --
 --   resolve-step                           Together, the snapshot named → ours says what it hands back, theirs what a function gives on its list → Compared, and Together of what is left
 --   resolving-step, resolving-home-step    so of the two calls
-use Prim.Native.Nat.{ℕ, suc, _<_, _^_}
+use Prim.Native.Nat.{ℕ, suc, _≤_, _<_, _^_}
 use mathlib.Core.Path.{_≡_, refl, sym, _∙_, ap, subst}
 use mathlib.Core.Bool.{Bool, true, false, not}
 use mathlib.Core.List.{List, [], _∷_, map}
@@ -64,7 +64,7 @@ module _ (std : Std) (iter : Iter ℕ) (k : Seen) (m : ℕ) (y : Yard) (w : Worl
 
   -- the lists that the two hand back, and what they leave if they do
   abbrev our-list : List ℕ
-  our-list = listed a (due subject) (slotOf (adopt g c) a subject)
+  our-list = listed (adopt g c) a (due subject) (slotOf (adopt g c) a subject)
 
   abbrev our-left : Kept
   our-left = leftBy (adopt g c) a subject (due subject) (slotOf (adopt g c) a subject)
@@ -95,8 +95,8 @@ module _ (std : Std) (iter : Iter ℕ) (k : Seen) (m : ℕ) (y : Yard) (w : Worl
       (subst (λ f. Together std (seenBy k nothing) (suc m) (record { snapshots = y .snapshots; caches = f }) w) (sym (put-back (y .caches) i)) (later std k m y w held))
 
   -- both have handed their lists back
-  given : Then k (gives our-list) our-left (with-cache w i their-left)
-  given =
+  given : 1 ≤ length subject → Then k (gives our-list) our-left (with-cache w i their-left)
+  given filled =
       stays std (seenBy k (spoils (resolving i subject out) (resolvedAs (gives our-list)))) (suc m) (behind our-left) (with-cache w i their-left) j
       (with-caches std k m y w held (spoils (resolving i subject out) (resolvedAs (gives our-list))) (replaced (y .caches) i our-left) (with-cache w i their-left .caches)
       (λ x. sound x (eqb i x) refl) (λ q l n x. rights q l n x (eqb i x)))
@@ -107,7 +107,7 @@ module _ (std : Std) (iter : Iter ℕ) (k : Seen) (m : ℕ) (y : Yard) (w : Worl
       sound : (x : ℕ) (d : Bool) → eqb i x ≡ d
           → Sound (or (k .spoiled x) (and d (uncacheable subject our-list))) (k .mixed) (k .stood) (suc m) (pick d our-left (y .caches x)) (pick d their-left (w .caches x))
       sound x true q =
-          left-sound (k .spoiled i) (k .mixed) (k .stood) due g m c a (w .caches i) (held .caches i) right subject iter few (held .among-stood j named)
+          left-sound (k .spoiled i) (k .mixed) (k .stood) due g m c a (w .caches i) (held .caches i) right subject filled iter few (held .among-stood j named)
           (or (k .spoiled x) (uncacheable subject our-list)) (less x (eqb-true i x q))
       sound x false q = later-cache std k m y w held nothing x
 
@@ -115,7 +115,7 @@ module _ (std : Std) (iter : Iter ℕ) (k : Seen) (m : ℕ) (y : Yard) (w : Worl
       rights : k .mixed ≡ false → (l : ℕ) → among l (k .named) ≡ true → (x : ℕ) (d : Bool)
           → Right (walkedBy (held .entries l)) (standsAt y l) (pick d our-left (y .caches x)) (pick d their-left (w .caches x))
       rights q l n x true =
-          left-right (k .spoiled i) (k .mixed) (k .stood) due g m c a (w .caches i) (held .caches i) right subject iter few (walkedBy (held .entries l)) (standsAt y l) q
+          left-right (k .spoiled i) (k .mixed) (k .stood) due g m c a (w .caches i) (held .caches i) right subject filled iter few (walkedBy (held .entries l)) (standsAt y l) q
           (λ e. ap (λ z. walkedBy (held .entries z)) (held .apart q l j n named e))
       rights q l n x false = held .right q l n x
 
@@ -140,13 +140,13 @@ module _ (std : Std) (iter : Iter ℕ) (k : Seen) (m : ℕ) (y : Yard) (w : Worl
         (subst (λ h. Goal (say h) (Then (stamps k j (say h)) h (leftIf H (y .caches i) our-left))) (sym (ended .0))
         (subst (λ r. Goal r (Then (stamps k j r) H (leftIf H (y .caches i) our-left))) (sym (reads H))
         (compared-handed (not (and (k .spoiled i) (k .mixed))) subject our-list (length out) give w theirs (λ h. Then (stamps k j (replyOf give h)) h (leftIf h (y .caches i) our-left))
-        turned (plainly our-list) (calm our-list) (
+        turned (plainly our-list) (calm our-list) (λ filled. (
           (tell (f their-list), with-cache w i their-left),
           ap (λ r. r >>= (λ given. Ok (tell (given .0), with-cache w i (given .1))))
               (resolve-gives std iter f (held .entries j) (w .snapshots j) (w .caches i) (g .0) subject (held .snapshots j .walks) (held .snapshots j .generation)),
           same-told (not (and (k .spoiled i) (k .mixed))) refl,
-          subst (λ t. Then t (gives our-list) our-left (with-cache w i their-left)) (sym (none our-list)) given,
-        ))))
+          subst (λ t. Then t (gives our-list) our-left (with-cache w i their-left)) (sym (none our-list)) (given filled),
+        )))))
       where
         H : Handed
         H = unlessText (grammar false subject) (fitting (length out) our-list)

@@ -3,9 +3,9 @@
 --   Sound          what holds whatever the tables; fresh-sound, later-sound, cleared-sound, stood-sound
 --   Right          what holds beside a table that stands, while no two that stood had one generation; new-right, cleared-right
 --   same-list      Sound, Right → not (and spoiled mixed) ≡ true → the list that ours hands back is the one that theirs hands on
---   left-sound     Sound → Sound of what a resolve leaves on both sides
---   left-right     Right → what a resolve leaves is Right beside every table that stands, if none of the others has the generation of the one resolved through
-use Prim.Native.Nat.{ℕ, suc, _<_, _^_, max}
+--   left-sound     Sound, the subject is not empty → Sound of what a resolve leaves on both sides
+--   left-right     Right, the subject is not empty → what a resolve leaves is Right beside every table that stands, if none of the others has the generation of the one resolved through
+use Prim.Native.Nat.{ℕ, suc, _≤_, _<_, _^_, max}
 use native.Mathlib.Omega.{arith}
 use mathlib.Core.Path.{_≡_, refl, sym, _∙_, ap, subst}
 use mathlib.Core.Bool.{Bool, true, false, not}
@@ -135,10 +135,10 @@ module _ (spoiled mixed : Bool) (stood : List ℕ) (due : List ℕ → List ℕ)
 
     -- the subject is found on both sides with one list, or on neither
     abbrev Both : Option ℕ → Option (CacheEntry ℕ) → Type 0
-    Both (some i) (some x) = (listed a list (some i) ≡ listOf list (some x)) × ((i < e .used) × (row a i .0 ≡ subject))
+    Both (some i) (some x) = (listed e a list (some i) ≡ listOf list (some x)) × ((i < e .used) × (row (e .capacity) a i .0 ≡ subject))
     Both (some i) none = ⊥
     Both none (some x) = ⊥
-    Both none none = (j : ℕ) → j < e .used → row a j .0 ≡ subject → ⊥
+    Both none none = (j : ℕ) → j < e .used → row (e .capacity) a j .0 ≡ subject → ⊥
 
     both : spoiled ≡ false → Both (slotOf e a subject) (get (on .entries) subject)
     both clean = go (slotOf e a subject) refl (get (on .entries) subject) refl
@@ -148,61 +148,61 @@ module _ (spoiled mixed : Bool) (stood : List ℕ) (due : List ℕ → List ℕ)
 
         go : (r : Option ℕ) → slotOf e a subject ≡ r → (t : Option (CacheEntry ℕ)) → get (on .entries) subject ≡ t → Both r t
         go (some i) q (some x) p =
-            let f = find-sound (a .heads) (a .keys) subject 0 (e .used) i q in
+            let f = find-sound (e .capacity) (a .keys) subject 0 (e .used) i q in
             let w = n .same .only (subject, x) (get-some (on .entries) subject x p) in
             let below : i < e .used = omega (arith, f .below) in
             let same : w .0 ≡ i = n .apart (w .0) i (w .1) below (ap (λ (z : List ℕ × CacheEntry ℕ). z .0) (sym (w .2)) ∙ sym (f .key)) in
-            (ap (λ j. row a j .1 .targets) (sym same) ∙ ap (λ (z : List ℕ × CacheEntry ℕ). z .1 .targets) (sym (w .2)), (below, f .key))
+            (ap (λ j. row (e .capacity) a j .1 .targets) (sym same) ∙ ap (λ (z : List ℕ × CacheEntry ℕ). z .1 .targets) (sym (w .2)), (below, f .key))
         go (some i) q none p =
-            let f = find-sound (a .heads) (a .keys) subject 0 (e .used) i q in
-            each-at (λ x. x .0 ≡ subject → ⊥) (on .entries) (row a i) (get-none (on .entries) subject p) (n .same .kept i (omega (arith, f .below))) (f .key)
+            let f = find-sound (e .capacity) (a .keys) subject 0 (e .used) i q in
+            each-at (λ x. x .0 ≡ subject → ⊥) (on .entries) (row (e .capacity) a i) (get-none (on .entries) subject p) (n .same .kept i (omega (arith, f .below))) (f .key)
         go none q (some x) p =
             let w = n .same .only (subject, x) (get-some (on .entries) subject x p) in
-            find-none (a .heads) (a .keys) subject 0 (e .used) q (w .0) (omega arith) (omega (arith, w .1)) (ap (λ (z : List ℕ × CacheEntry ℕ). z .0) (sym (w .2)))
-        go none q none p = λ j h r. find-none (a .heads) (a .keys) subject 0 (e .used) q j (omega arith) (omega (arith, h)) r
+            find-none (e .capacity) (a .keys) subject 0 (e .used) q (w .0) (omega arith) (omega (arith, w .1)) (fit-on .small (w .0) (w .1)) (ap (λ (z : List ℕ × CacheEntry ℕ). z .0) (sym (w .2)))
+        go none q none p = λ j h r. find-none (e .capacity) (a .keys) subject 0 (e .used) q j (omega arith) (omega (arith, h)) (fit-on .small j h) r
 
-    right-list : mixed ≡ false → listed a list (slotOf e a subject) ≡ list
+    right-list : mixed ≡ false → listed e a list (slotOf e a subject) ≡ list
     right-list apart = go (slotOf e a subject) refl
       where
-        go : (r : Option ℕ) → slotOf e a subject ≡ r → listed a list r ≡ list
-        go (some i) q = let f = find-sound (a .heads) (a .keys) subject 0 (e .used) i q in right-on apart .each i (omega (arith, f .below)) ∙ ap due (f .key)
+        go : (r : Option ℕ) → slotOf e a subject ≡ r → listed e a list r ≡ list
+        go (some i) q = let f = find-sound (e .capacity) (a .keys) subject 0 (e .used) i q in right-on apart .each i (omega (arith, f .below)) ∙ ap due (f .key)
         go none q = refl
 
-    pub same-list : not (and spoiled mixed) ≡ true → listed a list (slotOf e a subject) ≡ listOf list (get (on .entries) subject)
+    pub same-list : not (and spoiled mixed) ≡ true → listed e a list (slotOf e a subject) ≡ listOf list (get (on .entries) subject)
     same-list q = go spoiled refl mixed refl q
       where
-        near-list : (r : Option ℕ) (t : Option (CacheEntry ℕ)) → Both r t → listed a list r ≡ listOf list t
+        near-list : (r : Option ℕ) (t : Option (CacheEntry ℕ)) → Both r t → listed e a list r ≡ listOf list t
         near-list (some i) (some x) k = k .0
         near-list (some i) none k = absurd k
         near-list none (some x) k = absurd k
         near-list none none k = refl
 
-        go : (b : Bool) → spoiled ≡ b → (d : Bool) → mixed ≡ d → not (and b d) ≡ true → listed a list (slotOf e a subject) ≡ listOf list (get (on .entries) subject)
+        go : (b : Bool) → spoiled ≡ b → (d : Bool) → mixed ≡ d → not (and b d) ≡ true → listed e a list (slotOf e a subject) ≡ listOf list (get (on .entries) subject)
         go false p d z q = near-list (slotOf e a subject) (get (on .entries) subject) (both p)
         go true p false z q = right-list z ∙ sym (trusty-list due (g .0) o (right z .theirs) subject)
         go true p true y q = let z : _≡_ {A = ℕ} 0 1 = cc in absurd (omega arith)
 
     -- what a resolve leaves on both sides
-    module _ (iter : Iter ℕ) (few : suc m < 2 ^ 64) where
+    module _ (filled : 1 ≤ length subject) (iter : Iter ℕ) (few : suc m < 2 ^ 64) where
       abbrev left : Kept
       left = leftBy e a subject list (slotOf e a subject)
 
       abbrev their-left : original.ResolveCache ℕ
       their-left = leftOf iter on subject list (get (on .entries) subject)
 
-      left-near : spoiled ≡ false → uncacheable subject (listed a list (slotOf e a subject)) ≡ false → Near (suc m) (left .cache) (left .area) their-left
+      left-near : spoiled ≡ false → uncacheable subject (listed e a list (slotOf e a subject)) ≡ false → Near (suc m) (left .cache) (left .area) their-left
       left-near clean = go (slotOf e a subject) (get (on .entries) subject) (both clean)
         where
-          missed : (b d : Bool) → ltb 256 (length subject) ≡ b → ltb 16 (length list) ≡ d → ((j : ℕ) → j < e .used → row a j .0 ≡ subject → ⊥) → or b d ≡ false
-              → Near (suc m) ((let x : Kept = pick (not (or b d)) (record { cache = grown e; area = keep a (place e a) subject list (ticked e .0) }) (record { cache = walked e; area = a }) in x) .cache)
-              ((let x : Kept = pick (not (or b d)) (record { cache = grown e; area = keep a (place e a) subject list (ticked e .0) }) (record { cache = walked e; area = a }) in x) .area)
+          missed : (b d : Bool) → ltb 256 (length subject) ≡ b → ltb 16 (length list) ≡ d → ((j : ℕ) → j < e .used → row (e .capacity) a j .0 ≡ subject → ⊥) → or b d ≡ false
+              → Near (suc m) ((let x : Kept = pick (not (or b d)) (record { cache = grown e; area = keep (e .capacity) a (place e a) subject list (ticked e .0) }) (record { cache = walked e; area = a }) in x) .cache)
+              ((let x : Kept = pick (not (or b d)) (record { cache = grown e; area = keep (e .capacity) a (place e a) subject list (ticked e .0) }) (record { cache = walked e; area = a }) in x) .area)
               (miss iter on subject list)
           missed true d p r k q = let z : _≡_ {A = ℕ} 0 1 = cc in absurd (omega arith)
           missed false true p r k q = let z : _≡_ {A = ℕ} 0 1 = cc in absurd (omega arith)
           missed false false p r k q =
-              miss-near m e a on fit-on (near-on clean) few subject list (ltb-false 256 (length subject) p) (ltb-false 16 (length list) r) k iter
+              miss-near m e a on fit-on (near-on clean) few subject list filled (ltb-false 256 (length subject) p) (ltb-false 16 (length list) r) k iter
 
-          go : (r : Option ℕ) (t : Option (CacheEntry ℕ)) → Both r t → uncacheable subject (listed a list r) ≡ false
+          go : (r : Option ℕ) (t : Option (CacheEntry ℕ)) → Both r t → uncacheable subject (listed e a list r) ≡ false
               → Near (suc m) ((leftBy e a subject list r) .cache) ((leftBy e a subject list r) .area) (leftOf iter on subject list t)
           go (some i) (some x) k q = hit-near m e a on fit-on (near-on clean) few subject i (k .1 .0) (k .1 .1)
           go (some i) none k q = absurd k
@@ -213,10 +213,10 @@ module _ (spoiled mixed : Bool) (stood : List ℕ) (due : List ℕ → List ℕ)
       left-adopts = ap (λ (h : Generation). h .0) (left-generation e a subject list (slotOf e a subject)) ∙ adopted-generation g c
 
       -- the table's generation is among those that stood
-      pub left-sound : among (g .0) stood ≡ true → (then′ : Bool) → (then′ ≡ false → (spoiled ≡ false) × (uncacheable subject (listed a list (slotOf e a subject)) ≡ false))
+      pub left-sound : among (g .0) stood ≡ true → (then′ : Bool) → (then′ ≡ false → (spoiled ≡ false) × (uncacheable subject (listed e a list (slotOf e a subject)) ≡ false))
           → Sound then′ mixed stood (suc m) left their-left
       left-sound stands then′ less = record {
-        fit = left-keeps Anything e a fit-on subject list tt;
+        fit = left-keeps Anything e a fit-on subject list tt filled;
         near = λ q. left-near (less q .0) (less q .1);
         past = λ q f. absurd (among-both (left .cache .generation .0) left-adopts f);
         their-past = λ q f. absurd (among-both (their-left .generation) (left-on iter (g .0) o subject list (get (on .entries) subject)) f);
@@ -228,7 +228,7 @@ module _ (spoiled mixed : Bool) (stood : List ℕ) (due : List ℕ → List ℕ)
       -- `also` and h are of any table that stands
       pub left-right : (also : List ℕ → List ℕ) (h : ℕ) → mixed ≡ false → (h ≡ g .0 → also ≡ due) → Right also h left their-left
       left-right also h q one = record {
-        ours = λ f. subst (λ d. Keeps (Dues d) (left .cache) (left .area)) (sym (one (sym f ∙ left-adopts))) (left-keeps (Dues due) e a (right-on q) subject list refl);
+        ours = λ f. subst (λ d. Keeps (Dues d) (left .cache) (left .area)) (sym (one (sym f ∙ left-adopts))) (left-keeps (Dues due) e a (right-on q) subject list refl filled);
         theirs = λ f. subst (λ d. original.Each (Trusted d) (their-left .entries)) (sym (one (sym f ∙ left-on iter (g .0) o subject list (get (on .entries) subject))))
             (left-trusty due (g .0) o (right q .theirs) subject iter);
       }

@@ -21,6 +21,7 @@ use Rattle.sublist_rules.specs.Passes.{counted, joined, lineIn, linesIn, told, 
 use Rattle.sublist_rules.specs.Leaving.{buildLeaves}
 use Rattle.sublist_original.specs.Original.{Ok, Std}
 use Rattle.sublist_snapshot.specs.Snapshot.{Table, first, copied, make}
+use Rattle.resolve_cache_rules.specs.Mark.{hashFrom, mark}
 use Rattle.resolve_cache_rules.specs.Cache.{withCapacity, resolve, fresh}
 use Rattle.binding.specs.declared.Resolution.{Resolution}
 use Rattle.binding.specs.declared.Resolution.the-variants.{Routed, NoStream}
@@ -62,7 +63,7 @@ repliesOn y (n ∷ ns) = replyOn y n ∷ repliesOn (afterOn y n) ns
 pub one-cache-two-snapshots :
     (repliesOn yard (through 0 ∷ through 1 ∷ []) ≡ resolved (7 ∷ []) (Routed 7) ∷ resolved (7 ∷ []) (Routed 7) ∷ [])
     × (repliesOn yard (through 1 ∷ through 0 ∷ []) ≡ resolved [] NoStream ∷ resolved [] NoStream ∷ [])
-unfolding sequence firstBad fnv fnvFrom grammar worst seek literalChild starChild added placed childOrNew onward grown planted collect push visit visits arrived onToken onTokens exact listed ended walkOver needed worstOf buildSays counted joined lineIn linesIn told settled laidAt laid filledBy filled buildLeaves resolve
+unfolding sequence firstBad fnv fnvFrom grammar worst seek literalChild starChild added placed childOrNew onward grown planted collect push visit visits arrived onToken onTokens exact listed ended walkOver needed worstOf buildSays counted joined lineIn linesIn told settled laidAt laid filledBy filled buildLeaves hashFrom mark resolve
 one-cache-two-snapshots = (refl, refl)
 
 -- ---- the original's side
@@ -111,7 +112,7 @@ module _ (std : Std) (iter : Iter ℕ) (w : World) (begins : Fresh std entriesIn
 
   pub original-too : (u v : World) × (call std iter w (resolves 0 0 (bytes "a")) ≡ Ok (theirs.resolved (7 ∷ []), u))
       × (call std iter u (resolves 0 1 (bytes "a")) ≡ Ok (theirs.resolved (7 ∷ []), v))
-  unfolding sequence firstBad fnv fnvFrom grammar worst seek literalChild starChild added placed childOrNew onward grown planted collect push visit visits arrived onToken onTokens exact listed ended walkOver needed worstOf buildSays counted joined lineIn linesIn told settled laidAt laid filledBy filled buildLeaves resolve
+  unfolding sequence firstBad fnv fnvFrom grammar worst seek literalChild starChild added placed childOrNew onward grown planted collect push visit visits arrived onToken onTokens exact listed ended walkOver needed worstOf buildSays counted joined lineIn linesIn told settled laidAt laid filledBy filled buildLeaves hashFrom mark resolve
   original-too =
       let one = each-same .1 in
       let two = one .3 .1 in (

@@ -159,7 +159,7 @@ module _ (std : Std) (iter : Iter ℕ) (k : Seen) (m : ℕ) (y : Yard) (w : Worl
       match-step theirs x more e q plainly calm none =
           subst (λ r. Compared true r w (parsed (validate subject false) w theirs) (Then r)) (sym match-says)
           (compared-handed true subject list (length out) give w theirs (λ h. Then (replyOf give h)) (λ r. unchanged) plainly calm
-          ((x, w), e, (more, q), subst (λ t. Together std (seenBy t nothing) (suc m) (with-cabinet y j (cabinetOf y j)) w) (sym none) unchanged))
+          (λ filled. ((x, w), e, (more, q), subst (λ t. Together std (seenBy t nothing) (suc m) (with-cabinet y j (cabinetOf y j)) w) (sym none) unchanged)))
 
     pub asking-step : Step std iter k m y w (j, asking subject out) (matches j subject)
     asking-step =

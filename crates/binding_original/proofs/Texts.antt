@@ -1,8 +1,8 @@
 -- A call with a subject on both sides: its text is refused by both, or by an added number of ours alone; then 21; then what it gives.
 --
 --   verdict-same       singleHome list ≡ verdictOf (single-home list)
---   compared-handed    what ours gives is told by theirs → Compared of ours, which hands back the list or turns back, and theirs, behind `parse_literal`
-use Prim.Native.Nat.{ℕ}
+--   compared-handed    what ours gives for a text that is not empty is told by theirs → Compared of ours, which hands back the list or turns back, and theirs, behind `parse_literal`
+use Prim.Native.Nat.{ℕ, _≤_}
 use mathlib.Core.Path.{_≡_, refl, sym, subst}
 use mathlib.Core.Bool.{Bool, true, false}
 use mathlib.Core.List.{List, [], _∷_}
@@ -20,7 +20,7 @@ use Rattle.subject_rules.specs.Original.{Error, Empty, EmptyToken, IllegalChar,
 use Rattle.subject_rules.proofs.SameGrammar.{grammar-original}
 use Rattle.sublist_original.specs.Original.{Outcome, Ok}
 use Rattle.resolve_cache_rules.specs.Cache.{Handed, turnedBack, gives}
-use Rattle.resolve_cache_rules.proofs.Faithful.{unlessText, fitting}
+use Rattle.resolve_cache_rules.proofs.Faithful.{unlessText, fitting, accepted-some}
 use Rattle.binding.specs.Verdict.{singleHome}
 use Rattle.binding.specs.Calls as ours
 use Rattle.binding_original.specs.Original.{single-home}
@@ -62,7 +62,7 @@ Given compared r given rest = (x : Told × World) × (given ≡ Ok x) × (pick c
 
 -- `Rest` is asked of what is there then, by what ours hands back; a call that turns back leaves what is there
 pub compared-handed : (compared : Bool) (text list : List ℕ) (room : ℕ) (give : List ℕ → ours.Reply) (w : World) (theirs : Outcome (Told × World)) (Rest : Handed → World → Type 0)
-    → ((r : Answer) → Rest (turnedBack r) w) → added (give list) ≡ false → refusing (give list) ≡ false → Given compared (give list) theirs (Rest (gives list))
+    → ((r : Answer) → Rest (turnedBack r) w) → added (give list) ≡ false → refusing (give list) ≡ false → (1 ≤ length text → Given compared (give list) theirs (Rest (gives list)))
     → Compared compared (replyOf give (unlessText (grammar false text) (fitting room list))) w (parsed (validate text false) w theirs) (Rest (unlessText (grammar false text) (fitting room list)))
 compared-handed compared text list room give w theirs Rest here plainly calm accepted = go (text-of text)
   where
@@ -82,17 +82,17 @@ compared-handed compared text list room give w theirs Rest here plainly calm acc
     by-error (TailWildcardNotLast index) = same (answerOf (subject.Err (TailWildcardNotLast index))) (TailWildcardNotLast index) refl
     by-error (TooDeep depth) = same (answerOf (subject.Err (TooDeep depth))) (TooDeep depth) refl
 
-    by-room : (b : Bool) → Compared compared (replyOf give (pick b (turnedBack (answer 21 (length list ∷ []))) (gives list))) w theirs
+    by-room : 1 ≤ length text → (b : Bool) → Compared compared (replyOf give (pick b (turnedBack (answer 21 (length list ∷ []))) (gives list))) w theirs
         (Rest (pick b (turnedBack (answer 21 (length list ∷ []))) (gives list)))
-    by-room true = here (answer 21 (length list ∷ []))
-    by-room false = subst (λ d. pick d (Rest (gives list) w) (Answered compared (give list) theirs (Rest (gives list)))) (sym plainly)
-        (subst (λ d. Given (or d compared) (give list) theirs (Rest (gives list))) (sym calm) accepted)
+    by-room filled true = here (answer 21 (length list ∷ []))
+    by-room filled false = subst (λ d. pick d (Rest (gives list) w) (Answered compared (give list) theirs (Rest (gives list)))) (sym plainly)
+        (subst (λ d. Given (or d compared) (give list) theirs (Rest (gives list))) (sym calm) (accepted filled))
 
-    by-parse : (r : subject.Result ℕ) → Goal (answerOf r) (parsed r w theirs)
-    by-parse (subject.Ok n) = by-room (ltb room (length list))
-    by-parse (subject.Err x) = by-error x
+    by-parse : (r : subject.Result ℕ) → grammar false text ≡ answerOf r → Goal (answerOf r) (parsed r w theirs)
+    by-parse (subject.Ok n) e = by-room (accepted-some text (n ∷ []) e) (ltb room (length list))
+    by-parse (subject.Err x) e = by-error x
 
     go : Text text → Goal (grammar false text) (parsed (validate text false) w theirs)
     go (long e) = subst (λ a. Goal a (parsed (validate text false) w theirs)) (sym e) (here (answer 1 []))
     go (wrong i e) = subst (λ a. Goal a (parsed (validate text false) w theirs)) (sym e) (here (answer 2 (i ∷ [])))
-    go (plain e) = subst (λ a. Goal a (parsed (validate text false) w theirs)) (sym e) (by-parse (validate text false))
+    go (plain e) = subst (λ a. Goal a (parsed (validate text false) w theirs)) (sym e) (by-parse (validate text false) e)

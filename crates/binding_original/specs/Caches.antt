@@ -17,11 +17,11 @@ use Rattle.binding_original.specs.Original.{CacheEntry, Iter, ResolveCac
 use Rattle.binding_original.specs.Calls.{Yard, NamedCall, replyOn, afterOn, World, Asked, call}
 use Rattle.binding_original.specs.Calls.{Compared}
 
--- what slot i of ours keeps: the subject, and its list and stamp
-abbrev pub row : Area → ℕ → Str × CacheEntry ℕ
-row a i = (
-  keyAt (a .heads) (a .keys) i,
-  record { targets = targetsAt (a .heads) (a .kept) i; last-used = stampAt (a .heads) i },
+-- what slot i of ours keeps, of c: the subject, and its list and stamp
+abbrev pub row : ℕ → Area → ℕ → Str × CacheEntry ℕ
+row c a i = (
+  keyAt c (a .keys) i,
+  record { targets = targetsAt c (a .keys) (a .kept) i; last-used = stampAt (a .stamps) i },
 )
 
 pub record SameKept (k : ours.Kept) (o : ResolveCache ℕ) : Type 0 where
@@ -31,9 +31,10 @@ pub record SameKept (k : ours.Kept) (o : ResolveCache ℕ) : Type 0 where
   pub walks : walk-count o ≡ k .cache .walks
   pub used : len o ≡ k .cache .used
   -- every used slot is an entry, and every entry a used slot
-  pub kept : (i : ℕ) → i < k .cache .used → List·Memᴰ (row (k .area) i) (o .entries)
+  pub kept : (i : ℕ) → i < k .cache .used → List·Memᴰ (row (k .cache .capacity) (k .area) i) (o .entries)
   pub only :
-      (x : Str × CacheEntry ℕ) → List·Memᴰ x (o .entries) → (i : ℕ) × (i < k .cache .used) × (x ≡ row (k .area) i)
+      (x : Str × CacheEntry ℕ) → List·Memᴰ x (o .entries)
+      → (i : ℕ) × (i < k .cache .used) × (x ≡ row (k .cache .capacity) (k .area) i)
 
 -- what is known so far: which caches had a resolve of a subject over 256 bytes or with a list over 16 targets, which
 -- snapshots calls were made on, the generations of the tables that stood

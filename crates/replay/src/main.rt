@@ -35,9 +35,9 @@ const SLOTS: usize = 8;
 // The most targets that a slot keeps.
 const MOST_KEPT: usize = 16;
 
-const SLOT_NUMBERS: usize = SLOTS * 3;
+const SLOT_NUMBERS: usize = SLOTS;
 
-const SLOT_BYTES: usize = SLOTS * 256;
+const SLOT_BYTES: usize = SLOTS * 260;
 
 const SLOT_TARGETS: usize = SLOTS * MOST_KEPT;
 
@@ -52,7 +52,7 @@ type Targets = [u32; ENTRIES];
 
 type Area = [u32; AREA_WORDS];
 
-type Heads = [u64; SLOT_NUMBERS];
+type Stamps = [u64; SLOT_NUMBERS];
 
 type Keys = [u8; SLOT_BYTES];
 
@@ -261,7 +261,7 @@ struct List {
 // What the last call on a cache gave, the cache's state in it, and the cache's areas.
 struct Cache {
     pub given: CResolved,
-    pub heads: Heads,
+    pub stamps: Stamps,
     pub keys: Keys,
     pub kept: Kept,
 }
@@ -322,7 +322,7 @@ fn cache_of(capacity: u64, used: u64, generation: u64, tick: u64, walks: u64) ->
 fn fresh_cache() -> Cache {
     Cache {
         given: given_of(0, 0, cache_of(0, 0, 0, 0, 0)),
-        heads: [0u64; SLOT_NUMBERS],
+        stamps: [0u64; SLOT_NUMBERS],
         keys: [0u8; SLOT_BYTES],
         kept: [0u32; SLOT_TARGETS],
     }
@@ -584,8 +584,8 @@ fn on_snapshot(
 // ---- Calls on a cache. What they give is an answer, and the cache as they leave it.
 
 // The capacity asked for; the one that the cache has is the first value.
-fn new_cache(record: &[u8], heads: &Heads, keys: &Keys, kept: &Kept) -> CResolved {
-    let m = router_c::router_cache_new(word_at(record, CACHE_CALL) as usize, heads, keys, kept);
+fn new_cache(record: &[u8], stamps: &Stamps, keys: &Keys, kept: &Kept) -> CResolved {
+    let m = router_c::router_cache_new(word_at(record, CACHE_CALL) as usize, stamps, keys, kept);
     given_of(
         m.number,
         m.capacity,
@@ -602,7 +602,7 @@ fn clear(cache: CCache) -> CResolved {
 fn resolve(
     record: &[u8],
     cache: CCache,
-    heads: &mut Heads,
+    stamps: &mut Stamps,
     keys: &mut Keys,
     kept: &mut Kept,
     snapshot: CSnapshot,
@@ -610,14 +610,14 @@ fn resolve(
     out: &mut Targets,
 ) -> CResolved {
     let subject = after_list(record, CACHE_CALL);
-    router_c::router_resolve(cache, heads, keys, kept, snapshot, area, subject, out)
+    router_c::router_resolve(cache, stamps, keys, kept, snapshot, area, subject, out)
 }
 
 // The subject.
 fn cached_verdict(
     record: &[u8],
     cache: CCache,
-    heads: &mut Heads,
+    stamps: &mut Stamps,
     keys: &mut Keys,
     kept: &mut Kept,
     snapshot: CSnapshot,
@@ -627,7 +627,7 @@ fn cached_verdict(
     let subject = rest(record, CACHE_CALL);
     router_c::router_resolve_single_home_cached(
         cache,
-        heads,
+        stamps,
         keys,
         kept,
         snapshot,
@@ -641,7 +641,7 @@ fn cached_verdict(
 fn call_on_cache(
     record: &[u8],
     cache: CCache,
-    heads: &mut Heads,
+    stamps: &mut Stamps,
     keys: &mut Keys,
     kept: &mut Kept,
     snapshot: CSnapshot,
@@ -649,10 +649,10 @@ fn call_on_cache(
     out: &mut Targets,
 ) -> CResolved {
     match kind_of(record) {
-        NEW_CACHE => new_cache(record, heads, keys, kept),
+        NEW_CACHE => new_cache(record, stamps, keys, kept),
         CLEAR => clear(cache),
-        RESOLVE => resolve(record, cache, heads, keys, kept, snapshot, area, out),
-        _ => cached_verdict(record, cache, heads, keys, kept, snapshot, area, out),
+        RESOLVE => resolve(record, cache, stamps, keys, kept, snapshot, area, out),
+        _ => cached_verdict(record, cache, stamps, keys, kept, snapshot, area, out),
     }
 }
 
@@ -692,14 +692,14 @@ fn call_cache(
     area: &Area,
     out: &mut Targets,
 ) -> Cache {
-    let mut heads = cache.heads;
+    let mut stamps = cache.stamps;
     let mut keys = cache.keys;
     let mut kept = cache.kept;
     let state = state_in(cache.given);
     let given = call_on_cache(
         record,
         state,
-        &mut heads,
+        &mut stamps,
         &mut keys,
         &mut kept,
         snapshot,
@@ -709,7 +709,7 @@ fn call_cache(
     show_hit(given, &kept, out);
     Cache {
         given,
-        heads,
+        stamps,
         keys,
         kept,
     }

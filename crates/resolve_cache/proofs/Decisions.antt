@@ -1,13 +1,13 @@
 -- The tests that lead to a decision say what the resolve is.
 use Prim.Native.Nat.{ℕ, zero, suc, _+_, _≤_, _<_}
 use native.Mathlib.Omega.{arith}
-use mathlib.Core.Path.{_≡_, refl, sym, _∙_, ap}
+use mathlib.Core.Path.{_≡_, refl, sym, _∙_, ap, subst}
 use mathlib.Core.Bool.{Bool, true, false}
 use mathlib.Core.List.{List, [], _∷_}
 use mathlib.Core.Option.{Option, none, some}
 use lib.Dec.{eqb, ltb}
-use lib.ListN.{length}
-use borrow.Author.Tests.{ltb-false, eqb-true, eqb-false}
+use lib.ListN.{length, getD}
+use borrow.Author.Tests.{lt-ltb, le-ltb, ltb-false, eqb-true, eqb-false}
 use Rattle.subject_rules.specs.Choice.{pick, or}
 use Rattle.subject.specs.declared.SubjectError.{SubjectError}
 use Rattle.subject.specs.declared.Parsed.{Parsed}
@@ -29,35 +29,32 @@ use Rattle.resolve_cache_rules.specs.Cache.{unchanged, workBy, work, ifAccepted
 use Rattle.resolve_cache.specs.Answers.{resolveAnswer}
 use Rattle.resolve_cache_rules.specs.Ready.{Wide, Ready, Small}
 use Rattle.resolve_cache.specs.Deciding.{seen, current, showing, Decides}
-use Rattle.resolve_cache_rules.proofs.Slots.{or-false, short-wide, find-sound}
-
-small-from : (heads : List ℕ) (i n : ℕ) → badFrom heads i n ≡ false → (j : ℕ) → i ≤ j → j < i + n → keyLength heads j ≤ 256
-small-from heads i zero e j h k = absurd (omega arith)
-small-from heads i (suc n) e j h k = go (eqb i j) refl (λ l. small-from heads (suc i) n (both .1) j l (omega arith))
-  where
-    both : (badSlot heads i ≡ false) × (badFrom heads (suc i) n ≡ false)
-    both = or-false (badSlot heads i) (badFrom heads (suc i) n) e
-
-    here : keyLength heads i ≤ 256
-    here = ltb-false 256 (keyLength heads i) (or-false (ltb 256 (keyLength heads i)) (ltb 16 (targetCount heads i)) (both .0) .0)
-
-    go : (b : Bool) → eqb i j ≡ b → (suc i ≤ j → keyLength heads j ≤ 256) → keyLength heads j ≤ 256
-    go true q ih = rw (sym (eqb-true i j q)) here
-    go false q ih = ih (omega (arith, eqb-false i j q))
+use Rattle.resolve_cache_rules.proofs.Slots.{or-false, short-wide, small-from, find-sound}
 
 -- 18 does not apply
 module _ (c : ResolveCache) (a : Area) (b : bad c a ≡ false) where
-  parts : (eqb (c .capacity) 0 ≡ false) × (or (ltb (c .capacity) (c .used)) (badFrom (a .heads) 0 (c .used)) ≡ false)
-  parts = or-false (eqb (c .capacity) 0) (or (ltb (c .capacity) (c .used)) (badFrom (a .heads) 0 (c .used))) b
+  parts : (eqb (c .capacity) 0 ≡ false) × (or (ltb (c .capacity) (c .used)) (badFrom (c .capacity) (a .keys) 0 (c .used)) ≡ false)
+  parts = or-false (eqb (c .capacity) 0) (or (ltb (c .capacity) (c .used)) (badFrom (c .capacity) (a .keys) 0 (c .used))) b
 
-  rest : (ltb (c .capacity) (c .used) ≡ false) × (badFrom (a .heads) 0 (c .used) ≡ false)
-  rest = or-false (ltb (c .capacity) (c .used)) (badFrom (a .heads) 0 (c .used)) (parts .1)
+  rest : (ltb (c .capacity) (c .used) ≡ false) × (badFrom (c .capacity) (a .keys) 0 (c .used) ≡ false)
+  rest = or-false (ltb (c .capacity) (c .used)) (badFrom (c .capacity) (a .keys) 0 (c .used)) (parts .1)
 
   pub good-ready : Wide (c .capacity) a → Ready c a
   good-ready r = record { any = omega (arith, eqb-false (c .capacity) 0 (parts .0)); fits = ltb-false (c .capacity) (c .used) (rest .0); wide = r }
 
-  pub good-small : (n : ℕ) → n ≤ c .used → Small (a .heads) n
-  good-small n h i k = small-from (a .heads) 0 (c .used) (rest .1) i (omega arith) (omega arith)
+  pub good-small : (n : ℕ) → n ≤ c .used → Small (c .capacity) (a .keys) n
+  good-small n h i k = small-from (c .capacity) (a .keys) 0 (c .used) (rest .1) i (omega arith) (omega arith)
+
+-- what a lookup that found slot i comes to; b is the slot's byte of the second list
+module _ (c : ℕ) (keys : List ℕ) (i room : ℕ) (short : keyLength c keys i ≤ 256) where
+  count-is : getD keys (c + i) 0 ≡ targetCount c keys i
+  count-is = omega (arith, short)
+
+  pub seen-short : room < getD keys (c + i) 0 → Refuse (OutShort (getD keys (c + i) 0)) ≡ seen c keys (some i) room
+  seen-short h = ap (λ n. Refuse (OutShort n)) count-is ∙ rw (lt-ltb room (targetCount c keys i) (omega (arith, count-is)))
+
+  pub seen-hit : getD keys (c + i) 0 ≤ room → Hit i (getD keys (c + i) 0) ≡ seen c keys (some i) room
+  seen-hit h = ap (Hit i) count-is ∙ rw (le-ltb room (targetCount c keys i) (omega (arith, count-is)))
 
 -- the cache on a generation uses no more slots, and has the same capacity
 pub adopt-used : (g : Generation) (c : ResolveCache) → ((adopt g c) .used ≤ c .used) × ((adopt g c) .capacity ≡ c .capacity)
@@ -106,22 +103,30 @@ module _ (c : ResolveCache) (a : Area) (s : Snapshot) (words subject out : List 
       ready : Ready c a
       ready = good-ready c a b (short-wide (c .capacity) a h)
 
+      same-capacity : now .capacity ≡ c .capacity
+      same-capacity = adopt-used (s .generation) c .1
+
+      abbrev count : ℕ → ℕ
+      count i = targetCount (now .capacity) (a .keys) i
+
       -- a lookup in the slots used
-      pub looked : Decides c a s words subject out (seen (findFrom (a .heads) (a .keys) subject 0 ((current c a s words subject out) .used)) (a .heads) (length out))
-      looked = go (findFrom (a .heads) (a .keys) subject 0 (now .used)) refl
+      pub looked : Decides c a s words subject out
+          (seen (c .capacity) (a .keys) (findFrom (c .capacity) (a .keys) subject 0 ((current c a s words subject out) .used)) (length out))
+      looked = subst (λ m. Decides c a s words subject out (seen m (a .keys) (findFrom m (a .keys) subject 0 (now .used)) (length out))) same-capacity
+          (go (findFrom (now .capacity) (a .keys) subject 0 (now .used)) refl)
         where
-          found : (o : Option ℕ) → findFrom (a .heads) (a .keys) subject 0 (now .used) ≡ o → workBy c a subject out o now (walkOf s words subject) ≡ resolve c a s words subject out
+          found : (o : Option ℕ) → findFrom (now .capacity) (a .keys) subject 0 (now .used) ≡ o → workBy c a subject out o now (walkOf s words subject) ≡ resolve c a s words subject out
           found o q = ap (λ x. workBy c a subject out x now (walkOf s words subject)) (sym q) ∙ works
 
-          at : (i : ℕ) → findFrom (a .heads) (a .keys) subject 0 (now .used) ≡ some i → (full : Bool) → ltb (length out) (targetCount (a .heads) i) ≡ full
-              → Decides c a s words subject out (pick full (Refuse (OutShort (targetCount (a .heads) i))) (Hit i (targetCount (a .heads) i)))
-          at i q true e = ap (λ x. pick x (unchanged c a subject out (answer 21 (targetCount (a .heads) i ∷ []))) (showing c a s words subject out i (targetCount (a .heads) i))) (sym e) ∙ found (some i) q
+          at : (i : ℕ) → findFrom (now .capacity) (a .keys) subject 0 (now .used) ≡ some i → (full : Bool) → ltb (length out) (count i) ≡ full
+              → Decides c a s words subject out (pick full (Refuse (OutShort (count i))) (Hit i (count i)))
+          at i q true e = ap (λ x. pick x (unchanged c a subject out (answer 21 (count i ∷ []))) (showing c a s words subject out i (count i))) (sym e) ∙ found (some i) q
           at i q false e = (
             ready,
-            omega (arith, find-sound (a .heads) (a .keys) subject 0 (now .used) i q .below, adopt-used (s .generation) c .0, ready .fits),
-            ap (λ x. pick x (unchanged c a subject out (answer 21 (targetCount (a .heads) i ∷ []))) (showing c a s words subject out i (targetCount (a .heads) i))) (sym e) ∙ found (some i) q,
+            omega (arith, find-sound (now .capacity) (a .keys) subject 0 (now .used) i q .below, adopt-used (s .generation) c .0, ready .fits),
+            ap (λ x. pick x (unchanged c a subject out (answer 21 (count i ∷ []))) (showing c a s words subject out i (count i))) (sym e) ∙ found (some i) q,
           )
 
-          go : (o : Option ℕ) → findFrom (a .heads) (a .keys) subject 0 (now .used) ≡ o → Decides c a s words subject out (seen o (a .heads) (length out))
+          go : (o : Option ℕ) → findFrom (now .capacity) (a .keys) subject 0 (now .used) ≡ o → Decides c a s words subject out (seen (now .capacity) (a .keys) o (length out))
           go none q = (ready, (n, accepted), rw (accepted, d) (found none q))
-          go (some i) q = at i q (ltb (length out) (targetCount (a .heads) i)) refl
+          go (some i) q = at i q (ltb (length out) (count i)) refl

@@ -51,19 +51,19 @@ module _ (e : ResolveCache) (a : Area) (subject list : List ℕ) where
   unkept q d s = record {
     says = refl;
     cache = s ∙ ap (λ b. pick b (grown e) (walked e)) (sym q);
-    area = ap (λ b. pick b (keep a (place e a) subject list (ticked e .0)) a) (sym q);
+    area = ap (λ b. pick b (keep (e .capacity) a (place e a) subject list (ticked e .0)) a) (sym q);
   }
 
-  pub list-kept : qualifies subject list ≡ true → (i : ℕ) → i ≡ place e a → (t : Tick) → t ≡ ticked e → (after : Area) → after ≡ keep a i subject list (t .0)
+  pub list-kept : qualifies subject list ≡ true → (i : ℕ) → i ≡ place e a → (t : Tick) → t ≡ ticked e → (after : Area) → after ≡ keep (e .capacity) a i subject list (t .0)
       → (d : ResolveCache) → d ≡ grown e → Keeps e a subject list (record { cache = d; answer = answers.Walked (length list) }) after
   list-kept q i p t u after f d s = record {
     says = refl;
     cache = s ∙ ap (λ b. pick b (grown e) (walked e)) (sym q);
     area =
         f
-        ∙ ap (λ j. keep a j subject list (t .0)) p
-        ∙ ap (λ k. keep a (place e a) subject list (k .0)) u
-        ∙ ap (λ b. pick b (keep a (place e a) subject list (ticked e .0)) a) (sym q);
+        ∙ ap (λ j. keep (e .capacity) a j subject list (t .0)) p
+        ∙ ap (λ k. keep (e .capacity) a (place e a) subject list (k .0)) u
+        ∙ ap (λ b. pick b (keep (e .capacity) a (place e a) subject list (ticked e .0)) a) (sym q);
   }
 
 -- the cache on a generation has room too
@@ -148,14 +148,14 @@ module _ (c : ResolveCache) (a : Area) (s : Snapshot) (words subject out : List 
             (record {
               says = inOut (length (l .list));
               cache = pick b (grown (current c a s words subject out)) (walked (current c a s words subject out));
-              area = pick b (keep a (place (current c a s words subject out) a) subject (l .list) (ticked (current c a s words subject out) .0)) a;
+              area = pick b (keep ((current c a s words subject out) .capacity) a (place (current c a s words subject out) a) subject (l .list) (ticked (current c a s words subject out) .0)) a;
               out = over (l .list) out;
             })
             (pick b
             (record {
               says = inOut (length (l .list));
               cache = grown (current c a s words subject out);
-              area = keep a (place (current c a s words subject out) a) subject (l .list) (ticked (current c a s words subject out) .0);
+              area = keep ((current c a s words subject out) .capacity) a (place (current c a s words subject out) a) subject (l .list) (ticked (current c a s words subject out) .0);
               out = over (l .list) out;
             })
             (record { says = inOut (length (l .list)); cache = walked (current c a s words subject out); area = a; out = over (l .list) out }))

@@ -1,11 +1,11 @@
--- The loop that writes one list over another, element by element, and a slot's numbers side by side.
+-- The loop that writes one list over another, element by element.
 use Prim.Native.Nat.{ℕ, _+_, _≤_, _<_}
 use native.Mathlib.Omega.{arith}
-use native.Mathlib.Numerals.{add-one, add-two}
+use native.Mathlib.Numerals.{add-one}
 use mathlib.Core.Path.{_≡_, refl, _∙_, ap}
-use mathlib.Core.List.{List, [], _∷_, _++_, append-assoc}
+use mathlib.Core.List.{List, _++_, append-assoc}
 use lib.ListN.{length, getD, set, take, drop, length-set}
-use lib.Seq.{paste, paste-zero, paste-suc, take-length, set-split, sets-eq}
+use lib.Seq.{paste, paste-zero, paste-suc, take-length}
 use Rattle.sublist_tree.specs.Lists.{put}
 
 -- the first i elements of new are written over to₀ from a place on
@@ -33,9 +33,3 @@ module _ {to₀ : List ℕ} {from : ℕ} {new to : List ℕ} {i : ℕ} (w : Writ
       ∙ ap (paste to₀ from new) (let e : i ≡ length new = omega (arith, w .reached) in e)
       ∙ ap (λ l. take from to₀ ++ l ++ drop (from + length new) to₀) (take-length new)
       ∙ append-assoc (take from to₀) new (drop (from + length new) to₀)
-
-pub put-one : (l : List ℕ) (at x : ℕ) → at < length l → set l at x ≡ put l at (x ∷ [])
-put-one l at x h = rw add-one (set-split l at x h)
-
-pub put-three : (l : List ℕ) (at x y z : ℕ) → at + 3 ≤ length l → set (set (set l at x) (at + 1) y) (at + 2) z ≡ put l at (x ∷ y ∷ z ∷ [])
-put-three l at x y z h = rw (add-one at, add-two at) (sets-eq (x ∷ y ∷ z ∷ []) l at h ∙ append-assoc (take at l) (x ∷ y ∷ z ∷ []) (drop (at + 3) l))

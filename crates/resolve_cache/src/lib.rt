@@ -1,29 +1,30 @@
 // The resolve cache: lists found before, kept by subject for one generation of the table.
 // A port of IronBus's ResolveCache.
-// The slots lie in three lent lists: `heads` has three numbers a slot (the key's length, the number of targets, the
-// stamp), `keys` 256 bytes, `kept` 16 targets.
+// The slots lie in three lent lists: `stamps` has a number a slot, `keys` four lists of a byte a slot (the key's length
+// less one; the number of targets; the mark, low byte and high byte) and then 256 bytes a slot, `kept` 16 targets.
 ghost use mathlib.Core.Path.{_≡_};
 ghost use mathlib.Core.List.{[], _∷_};
-ghost use Prim.Native.Nat.{_+_, _*_, _-_, _≤_, _<_};
-ghost use lib.ListN.{length};
-ghost use Rattle.subject_rules.specs.Text.{same};
+ghost use mathlib.Core.Bool.{true, false};
+ghost use Prim.Native.Nat.{ℕ, _+_, _*_, _-_, _/_, _%_, _≤_, _<_};
+ghost use lib.ListN.{length, getD, set};
 ghost use Rattle.subject_rules.specs.Answers.{answer, whenAccepted};
 ghost use Rattle.subject.specs.Answers.{parsed};
 ghost use Rattle.sublist_tree.specs.Lists.{put};
 ghost use Rattle.sublist_walk_rules.specs.Walk.{part};
 ghost use Rattle.sublist_snapshot.specs.Snapshot.{wrap};
-ghost use Rattle.resolve_cache_rules.specs.Area.{keyLength, keyAt, keep};
-ghost use Rattle.resolve_cache_rules.specs.Cache.{badSlot, badFrom, bad, findFrom, oldestFrom, place};
+ghost use Rattle.resolve_cache_rules.specs.Mark.{hashFrom};
+ghost use Rattle.resolve_cache_rules.specs.Area.{keyLength, keepKey, keep};
+ghost use Rattle.resolve_cache_rules.specs.Cache.{badFrom, bad, keepsAt, findFrom, oldestFrom, place};
 ghost use Rattle.resolve_cache_rules.specs.Cache.{adopt, ticked, hit, walked, grown};
 ghost use Rattle.resolve_cache_rules.specs.Cache.{qualifies, handed, resolve};
 ghost use Rattle.resolve_cache_rules.specs.Answers.{lent};
 ghost use Rattle.resolve_cache.specs.Answers.{resolveAnswer, left, listOf};
 ghost use Rattle.resolve_cache_rules.specs.Ready.{Wide, Ready, Accepted, Small};
-ghost use Rattle.resolve_cache.specs.Deciding.{Passes, slotOf, seen, Keeps};
+ghost use Rattle.resolve_cache.specs.Deciding.{IsMark, slotOf, seen, Keeps};
 ghost use Rattle.resolve_cache.specs.Deciding.{walking, Decides};
+use resolve_cache_rules::KEY_BYTES;
 use resolve_cache_rules::ResolveCache;
-use resolve_cache_rules::SLOT_BYTES;
-use resolve_cache_rules::SLOT_NUMBERS;
+use resolve_cache_rules::SLOT_LISTS;
 use resolve_cache_rules::SLOT_TARGETS;
 use resolve_cache_rules::Tick;
 use subject::Parsed;
@@ -32,10 +33,8 @@ use sublist_snapshot::Generation;
 use sublist_snapshot::Snapshot;
 use sublist_snapshot::SnapshotMatch;
 
-// Where a slot's number of targets and its stamp lie among its numbers; the key's length is the first.
-const COUNT_AT: usize = 1;
-
-const STAMP_AT: usize = 2;
+// How many slots are looked at together for a mark.
+const RUN: usize = 32;
 
 // Where a resolve's list lies: a part of the cache's targets, or the first places of the output. Or why it is refused.
 pub enum ResolveAnswer {
@@ -60,6 +59,12 @@ enum Slot {
     Nothing,
 }
 
+// The mark of a key: its low byte and its high byte.
+struct Mark {
+    low: u8,
+    high: u8,
+}
+
 // What a resolve comes to before anything is written.
 enum Decision {
     Refuse(ResolveAnswer),
@@ -69,10 +74,10 @@ enum Decision {
 
 // The targets of a subject, from the cache or by a walk of the standing table, whose list is then kept.
 // 1 to 9, 17, 18, 19 on the counts; then a hit (21) or a walk (19, 21).
-// Only the heads change on a hit; a refusal changes nothing.
+// Only the stamps change on a hit; a refusal changes nothing.
 pub fn resolve(
     cache: ResolveCache,
-    heads: &mut [u64],
+    stamps: &mut [u64],
     keys: &mut [u8],
     kept: &mut [u32],
     snapshot: Snapshot,
@@ -81,14 +86,14 @@ pub fn resolve(
     out: &mut [u32],
 ) -> Resolved
     ensures { λ r. ⌜
-        left r (lent (now (heads .exit)) (now (keys .exit)) (now (kept .exit))) (now (out .exit))
-        ≡ resolve cache (lent (now (heads .entry)) (now (keys .entry)) (now (kept .entry)))
+        left r (lent (now (stamps .exit)) (now (keys .exit)) (now (kept .exit))) (now (out .exit))
+        ≡ resolve cache (lent (now (stamps .entry)) (now (keys .entry)) (now (kept .entry)))
         snapshot (now (area .entry)) (now (subject .entry)) (now (out .entry)) ⌝ }
 {
-    match decide(cache, heads, keys, kept, snapshot, area, subject, out) {
+    match decide(cache, stamps, keys, kept, snapshot, area, subject, out) {
         Decision::Refuse(answer) => refuse(cache, answer),
-        Decision::Hit { slot, count } => show(cache, heads, snapshot, slot, count),
-        Decision::Walk => walk(cache, heads, keys, kept, snapshot, area, subject, out),
+        Decision::Hit { slot, count } => show(cache, stamps, snapshot, slot, count),
+        Decision::Walk => walk(cache, stamps, keys, kept, snapshot, area, subject, out),
     }
 }
 
@@ -125,68 +130,31 @@ fn part<'a>(words: &'a [u32], from: usize, count: usize) -> &'a [u32]
     &words[from..end]
 }
 
-// A slot with a key over 256 bytes or over 16 targets.
-fn slot_is_bad(heads: &[u64], i: usize) -> bool
+// 18 on the slots: one of the first n has a key over 256 bytes or over 16 targets, so that its byte of the second list
+// is over 16. The loop has no other way out, and compiles to steps of sixteen bytes.
+fn has_bad_slot(keys: &[u8], capacity: usize, n: usize) -> bool
     requires { ⌜
-        (i < 1024)
-        × (3 * i + 3 ≤ length (now heads)) ⌝ }
-    ensures { λ r. ⌜ r ≡ badSlot (now (heads .entry)) i ⌝ }
+        (n ≤ capacity)
+        × (capacity ≤ 1024)
+        × (260 * capacity ≤ length (now keys)) ⌝ }
+    ensures { λ r. ⌜ r ≡ badFrom capacity (now (keys .entry)) 0 n ⌝ }
 {
-    if SLOT_BYTES < heads[SLOT_NUMBERS * i] as usize {
-        return true;
-    }
-    SLOT_TARGETS < heads[SLOT_NUMBERS * i + COUNT_AT] as usize
-}
-
-// 18 on the slots from a place on: one of them is bad.
-fn has_bad_slot_from(heads: &[u64], from: usize, n: usize) -> bool
-    requires { ⌜
-        (from ≤ n)
-        × (n ≤ 1024)
-        × (3 * n ≤ length (now heads)) ⌝ }
-    ensures { λ r. ⌜ r ≡ badFrom (now (heads .entry)) from (n - from) ⌝ }
-{
-    let mut i = from;
+    let mut bad = false;
+    let mut i = 0;
     while i < n {
-        if slot_is_bad(heads, i) {
-            return true;
+        if 16 < keys[capacity + i] {
+            bad = true;
         }
         i += 1;
     }
-    false
-}
-
-// 18 on the slots: one of the first n has a key over 256 bytes or over 16 targets. Four at a time, then the rest.
-fn has_bad_slot(heads: &[u64], n: usize) -> bool
-    requires { ⌜
-        (n ≤ 1024)
-        × (3 * n ≤ length (now heads)) ⌝ }
-    ensures { λ r. ⌜ r ≡ badFrom (now (heads .entry)) 0 n ⌝ }
-{
-    let mut i = 0;
-    while 4 <= n - i {
-        if slot_is_bad(heads, i) {
-            return true;
-        }
-        if slot_is_bad(heads, i + 1) {
-            return true;
-        }
-        if slot_is_bad(heads, i + 2) {
-            return true;
-        }
-        if slot_is_bad(heads, i + 3) {
-            return true;
-        }
-        i += 4;
-    }
-    has_bad_slot_from(heads, i, n)
+    bad
 }
 
 // 18: capacity is 0, more slots are used than capacity, or a used slot is bad.
-fn is_bad(cache: ResolveCache, heads: &[u64], keys: &[u8], kept: &[u32]) -> bool
-    requires { ⌜ Wide (cache .capacity) (lent (now heads) (now keys) (now kept)) ⌝ }
+fn is_bad(cache: ResolveCache, stamps: &[u64], keys: &[u8], kept: &[u32]) -> bool
+    requires { ⌜ Wide (cache .capacity) (lent (now stamps) (now keys) (now kept)) ⌝ }
     ensures { λ r. ⌜
-        r ≡ bad cache (lent (now (heads .entry)) (now (keys .entry)) (now (kept .entry))) ⌝ }
+        r ≡ bad cache (lent (now (stamps .entry)) (now (keys .entry)) (now (kept .entry))) ⌝ }
 {
     if cache.capacity == 0 {
         return true;
@@ -194,76 +162,191 @@ fn is_bad(cache: ResolveCache, heads: &[u64], keys: &[u8], kept: &[u32]) -> bool
     if cache.capacity < cache.used {
         return true;
     }
-    has_bad_slot(heads, cache.used)
+    has_bad_slot(keys, cache.capacity, cache.used)
 }
 
-// Whether a slot keeps the list of a subject: the same bytes.
-fn keeps(heads: &[u64], keys: &[u8], i: usize, subject: &[u8]) -> bool
-    requires { ⌜
-        (i < 1024)
-        × (3 * i + 3 ≤ length (now heads))
-        × (256 * i + 256 ≤ length (now keys))
-        × (keyLength (now heads) i ≤ 256) ⌝ }
-    ensures { λ r. ⌜
-        r ≡ same (keyAt (now (heads .entry)) (now (keys .entry)) i) (now (subject .entry)) ⌝ }
+// Where a text's last word begins.
+fn last_word(text: &[u8]) -> usize
+    ensures { λ r. ⌜ r ≡ length (now (text .entry)) - 8 ⌝ }
 {
-    let length = heads[SLOT_NUMBERS * i] as usize;
-    let start = SLOT_BYTES * i;
+    if text.len() < 8 {
+        return 0;
+    }
+    text.len() - 8
+}
+
+// The hash of a text's words.
+fn word_hash(text: &[u8]) -> u64
+    ensures { λ r. ⌜
+        r ≡ hashFrom (now (text .entry)) 0xcbf29ce484222325 0 ((length (now (text .entry)) + 7) / 8) ⌝ }
+{
+    let mut h: u64 = 0xcbf29ce484222325;
+    if text.len() == 0 {
+        return h;
+    }
+    let mut i = 0;
+    while 8 < text.len() - 8 * i {
+        h = subject::mix_word(h, subject::word_at(text, 8 * i));
+        i += 1;
+    }
+    subject::mix_word(h, subject::word_at(text, last_word(text)))
+}
+
+// The mark of a key.
+fn mark_of(key: &[u8]) -> Mark
+    ensures { λ r. ⌜ IsMark r (now (key .entry)) ⌝ }
+{
+    let spread = (word_hash(key) >> 32) * 0x1e3779b1;
+    let low = ((spread >> 16) & 0xff) as u8;
+    let high = ((spread >> 24) & 0xff) as u8;
+    Mark { low, high }
+}
+
+// Whether one of 32 slots may have a mark; its bytes lie from two places on.
+// The loop has no other way out, and compiles to steps of sixteen bytes.
+fn any_marked(keys: &[u8], lows: usize, highs: usize, sought: Mark) -> bool
+    requires { ⌜
+        (lows + 32 ≤ length (now keys))
+        × (highs + 32 ≤ length (now keys)) ⌝ }
+    ensures { λ r. ⌜
+        (r ≡ false → (k : ℕ) → k < 32
+        → getD (now (keys .entry)) (lows + k) 0 ≡ sought .low
+        → getD (now (keys .entry)) (highs + k) 0 ≡ sought .high → ⊥) ⌝ }
+{
+    let mut any = false;
+    let mut k = 0;
+    while k < RUN {
+        any = any | ((keys[lows + k] == sought.low) & (keys[highs + k] == sought.high));
+        k += 1;
+    }
+    any
+}
+
+// Whether a slot keeps the list of a subject that has this mark: the same mark and the same bytes.
+fn keeps(keys: &[u8], capacity: usize, i: usize, sought: Mark, subject: &[u8]) -> bool
+    requires { ⌜
+        (i < capacity)
+        × (capacity ≤ 1024)
+        × (260 * capacity ≤ length (now keys))
+        × (keyLength capacity (now keys) i ≤ 256) ⌝ }
+    requires { ⌜ IsMark sought (now subject) ⌝ }
+    ensures { λ r. ⌜ r ≡ keepsAt capacity (now (keys .entry)) (now (subject .entry)) i ⌝ }
+{
+    if keys[2 * capacity + i] != sought.low {
+        return false;
+    }
+    if keys[3 * capacity + i] != sought.high {
+        return false;
+    }
+    let length = keys[i] as usize + 1;
+    let start = SLOT_LISTS * capacity + KEY_BYTES * i;
     let end = start + length;
     subject::same_bytes(&keys[start..end], subject)
 }
 
-// The first slot from a place on whose key has so many bytes; n if none of the n slots has.
-fn next_of_size(heads: &[u64], from: usize, n: usize, size: usize) -> usize
+// The first slot from one place up to another that keeps the list of a subject; slot by slot.
+fn find_between(
+    keys: &[u8],
+    capacity: usize,
+    from: usize,
+    to: usize,
+    sought: Mark,
+    subject: &[u8],
+) -> Slot
     requires { ⌜
-        (from ≤ n)
-        × (n ≤ 1024)
-        × (3 * n ≤ length (now heads)) ⌝ }
-    ensures { λ r. ⌜ Passes (now (heads .entry)) size from r n ⌝ }
+        (from ≤ to)
+        × (to ≤ capacity)
+        × (capacity ≤ 1024)
+        × (260 * capacity ≤ length (now keys)) ⌝ }
+    requires { ⌜ Small capacity (now keys) to ⌝ }
+    requires { ⌜ IsMark sought (now subject) ⌝ }
+    ensures { λ r. ⌜
+        slotOf r ≡ findFrom capacity (now (keys .entry)) (now (subject .entry)) from (to - from) ⌝ }
 {
     let mut i = from;
-    while i < n {
-        if heads[SLOT_NUMBERS * i] as usize == size {
-            return i;
+    while i < to {
+        if keeps(keys, capacity, i, sought, subject) {
+            return Slot::At(i);
         }
         i += 1;
     }
-    i
+    Slot::Nothing
 }
 
-// The first of n slots that keeps the list of a subject.
-fn find(heads: &[u64], keys: &[u8], n: usize, subject: &[u8]) -> Slot
+// The first slot of a run that keeps the list of a subject. A run without the mark is passed over.
+fn find_in_run(
+    keys: &[u8],
+    capacity: usize,
+    from: usize,
+    to: usize,
+    sought: Mark,
+    subject: &[u8],
+) -> Slot
     requires { ⌜
-        (n ≤ 1024)
-        × (3 * n ≤ length (now heads))
-        × (256 * n ≤ length (now keys)) ⌝ }
-    requires { ⌜ Small (now heads) n ⌝ }
+        (from < to)
+        × (to ≤ from + 32)
+        × (to ≤ capacity)
+        × (capacity ≤ 1024)
+        × (260 * capacity ≤ length (now keys)) ⌝ }
+    requires { ⌜ Small capacity (now keys) to ⌝ }
+    requires { ⌜ IsMark sought (now subject) ⌝ }
     ensures { λ r. ⌜
-        slotOf r ≡ findFrom (now (heads .entry)) (now (keys .entry)) (now (subject .entry)) 0 n ⌝ }
+        slotOf r ≡ findFrom capacity (now (keys .entry)) (now (subject .entry)) from (to - from) ⌝ }
 {
-    let size = subject.len();
-    let mut i = next_of_size(heads, 0, n, size);
+    if any_marked(keys, 2 * capacity + from, 3 * capacity + from, sought) {
+        return find_between(keys, capacity, from, to, sought, subject);
+    }
+    Slot::Nothing
+}
+
+// Where the run that begins at a place ends.
+fn run_end(from: usize, n: usize) -> usize
+    requires { ⌜ from < n ⌝ }
+    ensures { λ r. ⌜
+        (from < r)
+        × (r ≤ from + 32)
+        × (r ≤ n) ⌝ }
+{
+    if n - from < RUN {
+        return n;
+    }
+    from + RUN
+}
+
+// The first of n slots that keeps the list of a subject, run by run.
+fn find(keys: &[u8], capacity: usize, n: usize, subject: &[u8]) -> Slot
+    requires { ⌜
+        (n ≤ capacity)
+        × (capacity ≤ 1024)
+        × (260 * capacity ≤ length (now keys)) ⌝ }
+    requires { ⌜ Small capacity (now keys) n ⌝ }
+    ensures { λ r. ⌜
+        slotOf r ≡ findFrom capacity (now (keys .entry)) (now (subject .entry)) 0 n ⌝ }
+{
+    let sought = mark_of(subject);
+    let mut i = 0;
     while i < n {
-        if keeps(heads, keys, i, subject) {
-            return Slot::At(i);
+        let end = run_end(i, n);
+        match find_in_run(keys, capacity, i, end, sought, subject) {
+            Slot::At(slot) => return Slot::At(slot),
+            Slot::Nothing => {}
         }
-        i = next_of_size(heads, i + 1, n, size);
+        i = end;
     }
     Slot::Nothing
 }
 
 // The slot of smallest stamp among the first n, the lowest on a tie.
-fn oldest(heads: &[u64], n: usize) -> usize
+fn oldest(stamps: &[u64], n: usize) -> usize
     requires { ⌜
         (1 ≤ n)
-        × (n ≤ 1024)
-        × (3 * n ≤ length (now heads)) ⌝ }
-    ensures { λ r. ⌜ r ≡ oldestFrom (now (heads .entry)) 0 1 (n - 1) ⌝ }
+        × (n ≤ length (now stamps)) ⌝ }
+    ensures { λ r. ⌜ r ≡ oldestFrom (now (stamps .entry)) 0 1 (n - 1) ⌝ }
 {
     let mut best = 0;
     let mut i = 1;
     while i < n {
-        if heads[SLOT_NUMBERS * i + STAMP_AT] < heads[SLOT_NUMBERS * best + STAMP_AT] {
+        if stamps[i] < stamps[best] {
             best = i;
         }
         i += 1;
@@ -272,16 +355,16 @@ fn oldest(heads: &[u64], n: usize) -> usize
 }
 
 // The slot that a new list goes to: the first unused one, or the one of smallest stamp.
-fn place(cache: ResolveCache, heads: &[u64], keys: &[u8], kept: &[u32]) -> usize
-    requires { ⌜ Ready cache (lent (now heads) (now keys) (now kept)) ⌝ }
+fn place(cache: ResolveCache, stamps: &[u64], keys: &[u8], kept: &[u32]) -> usize
+    requires { ⌜ Ready cache (lent (now stamps) (now keys) (now kept)) ⌝ }
     ensures { λ r. ⌜
-        (r ≡ place cache (lent (now (heads .entry)) (now (keys .entry)) (now (kept .entry))))
+        (r ≡ place cache (lent (now (stamps .entry)) (now (keys .entry)) (now (kept .entry))))
         × (r < cache .capacity) ⌝ }
 {
     if cache.used < cache.capacity {
         return cache.used;
     }
-    oldest(heads, cache.used)
+    oldest(stamps, cache.used)
 }
 
 // The cache on a table's generation: emptied if it was on another.
@@ -352,13 +435,11 @@ fn grown(cache: ResolveCache) -> ResolveCache
 }
 
 // A slot is stamped.
-fn touch(heads: &mut [u64], i: usize, stamp: u64)
-    requires { ⌜
-        (i < 1024)
-        × (3 * i + 3 ≤ length (now heads)) ⌝ }
-    ensures { λ _. ⌜ now (heads .exit) ≡ put (now (heads .entry)) (3 * i + 2) (stamp ∷ []) ⌝ }
+fn touch(stamps: &mut [u64], i: usize, stamp: u64)
+    requires { ⌜ i < length (now stamps) ⌝ }
+    ensures { λ _. ⌜ now (stamps .exit) ≡ set (now (stamps .entry)) i stamp ⌝ }
 {
-    heads[SLOT_NUMBERS * i + STAMP_AT] = stamp;
+    stamps[i] = stamp;
 }
 
 fn put_bytes(to: &mut [u8], from: usize, new: &[u8])
@@ -383,43 +464,67 @@ fn put_words(to: &mut [u32], from: usize, new: &[u32])
     }
 }
 
-// A slot's numbers: the key's length, the number of targets, the stamp.
-fn put_head(heads: &mut [u64], i: usize, size: usize, count: usize, stamp: u64)
+// A slot's bytes in the four lists: the length of its key, the number of targets, the mark.
+fn put_lists(keys: &mut [u8], capacity: usize, i: usize, size: usize, count: usize, own: Mark)
     requires { ⌜
-        (i < 1024)
-        × (3 * i + 3 ≤ length (now heads)) ⌝ }
+        (i < capacity)
+        × (capacity ≤ 1024)
+        × (260 * capacity ≤ length (now keys))
+        × (1 ≤ size)
+        × (size ≤ 256)
+        × (count ≤ 16) ⌝ }
     ensures { λ _. ⌜
-        now (heads .exit) ≡ put (now (heads .entry)) (3 * i) (size ∷ count ∷ stamp ∷ []) ⌝ }
+        now (keys .exit)
+        ≡ set (set (set (set (now (keys .entry)) i (size - 1)) (capacity + i) count)
+        (2 * capacity + i) (own .low)) (3 * capacity + i) (own .high) ⌝ }
 {
-    heads[SLOT_NUMBERS * i] = size as u64;
-    heads[SLOT_NUMBERS * i + COUNT_AT] = count as u64;
-    heads[SLOT_NUMBERS * i + STAMP_AT] = stamp;
+    keys[i] = (size - 1) as u8;
+    keys[capacity + i] = count as u8;
+    keys[2 * capacity + i] = own.low;
+    keys[3 * capacity + i] = own.high;
+}
+
+// A slot's key, with its length, the number of targets and its mark.
+fn put_key(keys: &mut [u8], capacity: usize, i: usize, key: &[u8], count: usize)
+    requires { ⌜
+        (i < capacity)
+        × (capacity ≤ 1024)
+        × (260 * capacity ≤ length (now keys))
+        × (1 ≤ length (now key))
+        × (length (now key) ≤ 256)
+        × (count ≤ 16) ⌝ }
+    ensures { λ _. ⌜
+        now (keys .exit) ≡ keepKey capacity (now (keys .entry)) i (now (key .entry)) count ⌝ }
+{
+    let own = mark_of(key);
+    put_lists(keys, capacity, i, key.len(), count, own);
+    put_bytes(keys, SLOT_LISTS * capacity + KEY_BYTES * i, key);
 }
 
 // A list is kept in a slot under a key, with a stamp.
 fn keep(
-    heads: &mut [u64],
+    stamps: &mut [u64],
     keys: &mut [u8],
     kept: &mut [u32],
+    capacity: usize,
     i: usize,
     subject: &[u8],
     list: &[u32],
     stamp: u64,
 )
+    requires { ⌜ Wide capacity (lent (now stamps) (now keys) (now kept)) ⌝ }
     requires { ⌜
-        (i < 1024)
-        × (3 * i + 3 ≤ length (now heads))
-        × (256 * i + 256 ≤ length (now keys))
-        × (16 * i + 16 ≤ length (now kept))
+        (i < capacity)
+        × (1 ≤ length (now subject))
         × (length (now subject) ≤ 256)
         × (length (now list) ≤ 16) ⌝ }
     ensures { λ _. ⌜
-        lent (now (heads .exit)) (now (keys .exit)) (now (kept .exit))
-        ≡ keep (lent (now (heads .entry)) (now (keys .entry)) (now (kept .entry)))
+        lent (now (stamps .exit)) (now (keys .exit)) (now (kept .exit))
+        ≡ keep capacity (lent (now (stamps .entry)) (now (keys .entry)) (now (kept .entry)))
         i (now (subject .entry)) (now (list .entry)) stamp ⌝ }
 {
-    put_head(heads, i, subject.len(), list.len(), stamp);
-    put_bytes(keys, SLOT_BYTES * i, subject);
+    touch(stamps, i, stamp);
+    put_key(keys, capacity, i, subject, list.len());
     put_words(kept, SLOT_TARGETS * i, list);
 }
 
@@ -427,7 +532,7 @@ fn keep(
 fn qualifies(subject: &[u8], list: &[u32]) -> bool
     ensures { λ r. ⌜ r ≡ qualifies (now (subject .entry)) (now (list .entry)) ⌝ }
 {
-    if SLOT_BYTES < subject.len() {
+    if KEY_BYTES < subject.len() {
         return false;
     }
     if SLOT_TARGETS < list.len() {
@@ -439,17 +544,18 @@ fn qualifies(subject: &[u8], list: &[u32]) -> bool
 // The list of a walk is kept, if it qualifies. The cache is on the standing table's generation.
 fn keep_list(
     cache: ResolveCache,
-    heads: &mut [u64],
+    stamps: &mut [u64],
     keys: &mut [u8],
     kept: &mut [u32],
     subject: &[u8],
     list: &[u32],
 ) -> Resolved
-    requires { ⌜ Ready cache (lent (now heads) (now keys) (now kept)) ⌝ }
+    requires { ⌜ Ready cache (lent (now stamps) (now keys) (now kept)) ⌝ }
+    requires { ⌜ 1 ≤ length (now subject) ⌝ }
     ensures { λ r. ⌜
-        Keeps cache (lent (now (heads .entry)) (now (keys .entry)) (now (kept .entry)))
+        Keeps cache (lent (now (stamps .entry)) (now (keys .entry)) (now (kept .entry)))
         (now (subject .entry)) (now (list .entry))
-        r (lent (now (heads .exit)) (now (keys .exit)) (now (kept .exit))) ⌝ }
+        r (lent (now (stamps .exit)) (now (keys .exit)) (now (kept .exit))) ⌝ }
 {
     let count = list.len();
     let answer = ResolveAnswer::Walked { count };
@@ -459,9 +565,18 @@ fn keep_list(
             answer,
         };
     }
-    let i = place(cache, heads, keys, kept);
+    let i = place(cache, stamps, keys, kept);
     let stamp = next_tick(cache);
-    keep(heads, keys, kept, i, subject, list, stamp.0);
+    keep(
+        stamps,
+        keys,
+        kept,
+        cache.capacity,
+        i,
+        subject,
+        list,
+        stamp.0,
+    );
     Resolved {
         cache: grown(cache),
         answer,
@@ -471,7 +586,7 @@ fn keep_list(
 // The standing table is walked into the output, for a subject that was parsed.
 fn walk(
     cache: ResolveCache,
-    heads: &mut [u64],
+    stamps: &mut [u64],
     keys: &mut [u8],
     kept: &mut [u32],
     snapshot: Snapshot,
@@ -479,11 +594,11 @@ fn walk(
     subject: &[u8],
     out: &mut [u32],
 ) -> Resolved
-    requires { ⌜ Ready cache (lent (now heads) (now keys) (now kept)) ⌝ }
+    requires { ⌜ Ready cache (lent (now stamps) (now keys) (now kept)) ⌝ }
     requires { ⌜ Accepted (now subject) ⌝ }
     ensures { λ r. ⌜
-        left r (lent (now (heads .exit)) (now (keys .exit)) (now (kept .exit))) (now (out .exit))
-        ≡ walking cache (lent (now (heads .entry)) (now (keys .entry)) (now (kept .entry)))
+        left r (lent (now (stamps .exit)) (now (keys .exit)) (now (kept .exit))) (now (out .exit))
+        ≡ walking cache (lent (now (stamps .entry)) (now (keys .entry)) (now (kept .entry)))
         snapshot (now (area .entry)) (now (subject .entry)) (now (out .entry)) ⌝ }
 {
     let current = adopt(cache, snapshot.generation());
@@ -495,30 +610,30 @@ fn walk(
             count,
             peak: _,
             generation: _,
-        } => keep_list(current, heads, keys, kept, subject, &out[..count]),
+        } => keep_list(current, stamps, keys, kept, subject, &out[..count]),
     }
 }
 
 // The list that a slot keeps is shown, and the slot stamped.
 fn show(
     cache: ResolveCache,
-    heads: &mut [u64],
+    stamps: &mut [u64],
     snapshot: Snapshot,
     slot: usize,
     count: usize,
 ) -> Resolved
     requires { ⌜
         (slot < 1024)
-        × (3 * slot + 3 ≤ length (now heads)) ⌝ }
+        × (slot < length (now stamps)) ⌝ }
     ensures { λ r. ⌜
         (r .answer ≡ ResolveAnswer.Kept (16 * slot) count)
         × (r .cache ≡ hit (adopt (snapshot .generation) cache))
-        × (now (heads .exit)
-        ≡ put (now (heads .entry)) (3 * slot + 2) (ticked (adopt (snapshot .generation) cache) .0 ∷ [])) ⌝ }
+        × (now (stamps .exit)
+        ≡ set (now (stamps .entry)) slot (ticked (adopt (snapshot .generation) cache) .0)) ⌝ }
 {
     let current = adopt(cache, snapshot.generation());
     let stamp = next_tick(current);
-    touch(heads, slot, stamp.0);
+    touch(stamps, slot, stamp.0);
     Resolved {
         cache: hit(current),
         answer: ResolveAnswer::Kept {
@@ -548,21 +663,21 @@ fn refused(text: Parsed) -> ResolveAnswer
 }
 
 // A subject is looked for in the first n slots.
-fn look_up(heads: &[u64], keys: &[u8], n: usize, subject: &[u8], room: usize) -> Decision
+fn look_up(keys: &[u8], capacity: usize, n: usize, subject: &[u8], room: usize) -> Decision
     requires { ⌜
-        (n ≤ 1024)
-        × (3 * n ≤ length (now heads))
-        × (256 * n ≤ length (now keys)) ⌝ }
-    requires { ⌜ Small (now heads) n ⌝ }
+        (n ≤ capacity)
+        × (capacity ≤ 1024)
+        × (260 * capacity ≤ length (now keys)) ⌝ }
+    requires { ⌜ Small capacity (now keys) n ⌝ }
     ensures { λ r. ⌜
         r
-        ≡ seen (findFrom (now (heads .entry)) (now (keys .entry)) (now (subject .entry)) 0 n)
-        (now (heads .entry)) room ⌝ }
+        ≡ seen capacity (now (keys .entry))
+        (findFrom capacity (now (keys .entry)) (now (subject .entry)) 0 n) room ⌝ }
 {
-    match find(heads, keys, n, subject) {
+    match find(keys, capacity, n, subject) {
         Slot::Nothing => Decision::Walk,
         Slot::At(slot) => {
-            let count = heads[SLOT_NUMBERS * slot + COUNT_AT] as usize;
+            let count = keys[capacity + slot] as usize;
             if room < count {
                 return Decision::Refuse(ResolveAnswer::OutShort(count));
             }
@@ -574,7 +689,7 @@ fn look_up(heads: &[u64], keys: &[u8], n: usize, subject: &[u8], room: usize) ->
 // What a resolve comes to: 1 to 9, 17, 18, 19 on the counts, then a hit (21) or a walk.
 fn decide(
     cache: ResolveCache,
-    heads: &[u64],
+    stamps: &[u64],
     keys: &[u8],
     kept: &[u32],
     snapshot: Snapshot,
@@ -583,22 +698,22 @@ fn decide(
     out: &[u32],
 ) -> Decision
     ensures { λ r. ⌜
-        Decides cache (lent (now (heads .entry)) (now (keys .entry)) (now (kept .entry)))
+        Decides cache (lent (now (stamps .entry)) (now (keys .entry)) (now (kept .entry)))
         snapshot (now (area .entry)) (now (subject .entry)) (now (out .entry)) r ⌝ }
 {
     let text = subject::parse_literal(subject);
     let Parsed::Accepted(_) = text else {
         return Decision::Refuse(refused(text));
     };
-    if resolve_cache_rules::is_short(cache.capacity, heads, keys, kept) {
+    if resolve_cache_rules::is_short(cache.capacity, stamps, keys, kept) {
         return Decision::Refuse(ResolveAnswer::CacheShort);
     }
-    if is_bad(cache, heads, keys, kept) {
+    if is_bad(cache, stamps, keys, kept) {
         return Decision::Refuse(ResolveAnswer::BadSlot);
     }
     if !snapshot.stands_in(area) {
         return Decision::Refuse(ResolveAnswer::Damaged);
     }
     let current = adopt(cache, snapshot.generation());
-    look_up(heads, keys, current.used, subject, out.len())
+    look_up(keys, cache.capacity, current.used, subject, out.len())
 }

@@ -12,30 +12,31 @@ use lib.Seq.{take-append-seam}
 use borrow.Author.Tests.{ltb-true, ltb-false, le-ltb, eqb-true, eqb-false, ne-eqb}
 use Rattle.subject_rules.specs.Choice.{pick, or}
 use Rattle.subject_rules.specs.Answers.{Answer, answer}
+use Rattle.subject_rules.specs.Utf8.{sequence, firstBad}
 use Rattle.subject_rules.specs.Grammar.{grammar}
 use Rattle.sublist_walk_rules.specs.Walk.{Walked, found}
 use Rattle.subject_rules.specs.Outputs.{over}
 use Rattle.sublist_snapshot.specs.declared.Snapshot.{Snapshot}
 use Rattle.sublist_snapshot.specs.Snapshot.{standsIn, walkOf}
 use Rattle.resolve_cache_rules.specs.declared.ResolveCache.{ResolveCache}
-use Rattle.resolve_cache_rules.specs.Area.{Area, keyLength, targetCount, keyAt, targetsAt, keep, touch}
-use Rattle.resolve_cache_rules.specs.Cache.{short, bad, findFrom, oldestFrom, place, fresh, cacheNumbers}
+use Rattle.resolve_cache_rules.specs.Area.{Area, targetCount, keyAt, targetsAt, keep, touch}
+use Rattle.resolve_cache_rules.specs.Cache.{short, bad, findFrom, place, fresh, cacheNumbers}
 use Rattle.resolve_cache_rules.specs.Cache.{withCapacity, clear, emptied, adopt, ticked, hit, walked, grown, inKept}
 use Rattle.resolve_cache_rules.specs.Cache.{inOut, Handed, turnedBack, gives, handed, Resolved, unchanged, missed}
 use Rattle.resolve_cache_rules.specs.Cache.{hitAt, miss, workBy, work, ifAccepted, resolveBy, resolve}
 use Rattle.resolve_cache_rules.specs.Ready.{Wide}
-use Rattle.resolve_cache_rules.proofs.Slots.{short-wide, wide-short, Alike, keep-wide, keep-length, keep-count}
-use Rattle.resolve_cache_rules.proofs.Slots.{keep-key, keep-targets, keep-other, touch-wide, touch-alike}
-use Rattle.resolve_cache_rules.proofs.Slots.{targets-length, small-good, find-sound, oldest-below}
+use Rattle.resolve_cache_rules.proofs.Slots.{short-wide, wide-short, Fit, alike-fit, keep-wide}
+use Rattle.resolve_cache_rules.proofs.Slots.{keep-key, keep-targets, keep-fit, keep-other, touch-wide}
+use Rattle.resolve_cache_rules.proofs.Slots.{targets-length, small-good, find-sound, place-grows}
 
 -- where the cache is on the standing table's generation, it keeps what is due
 pub record Faithful (due : List ℕ → List ℕ) (g : ℕ) (c : ResolveCache) (a : Area) : Type 0 where
   pub wide : Wide (c .capacity) a
   pub any : 1 ≤ c .capacity
   pub fits : c .used ≤ c .capacity
-  pub small : (i : ℕ) → i < c .used → (keyLength (a .heads) i ≤ 256) × (targetCount (a .heads) i ≤ 16)
+  pub small : (i : ℕ) → i < c .used → Fit (c .capacity) (a .keys) i
   pub past : c .generation .0 ≤ g
-  pub right : c .generation .0 ≡ g → (i : ℕ) → i < c .used → targetsAt (a .heads) (a .kept) i ≡ due (keyAt (a .heads) (a .keys) i)
+  pub right : c .generation .0 ≡ g → (i : ℕ) → i < c .used → targetsAt (c .capacity) (a .keys) (a .kept) i ≡ due (keyAt (c .capacity) (a .keys) i)
 
 -- 1 to 9 come first
 abbrev pub unlessText : Answer → Handed → Handed
@@ -54,6 +55,12 @@ Good due g x r = (handed (r .says) (r .area .kept) (r .out) ≡ x) × Faithful d
 same-numbers : (c d : ResolveCache) → cacheNumbers c ≡ cacheNumbers d → c ≡ d
 same-numbers c d e =
     ap (λ (l : List ℕ). record { capacity = getD l 0 0; used = getD l 1 0; generation = record { 0 = getD l 2 0 }; tick = record { 0 = getD l 3 0 }; walks = getD l 4 0 }) e
+
+-- a subject that is accepted is not empty
+pub accepted-some : (subject values : List ℕ) → grammar false subject ≡ answer 0 values → 1 ≤ length subject
+unfolding grammar sequence firstBad
+accepted-some [] values e = let z : _≡_ {A = ℕ} 0 3 = cc in absurd (omega arith)
+accepted-some (b ∷ bs) values e = omega arith
 
 -- a fresh cache
 pub fresh-faithful : (due : List ℕ → List ℕ) (n : ℕ) (c : ResolveCache) (a : Area) → withCapacity n a ≡ answer 0 (cacheNumbers c) → Faithful due 0 c a
@@ -116,73 +123,66 @@ module _ (due : List ℕ → List ℕ) (g : ℕ) where
       )
 
   -- a list that is due, kept in a slot
-  module _ (e : ResolveCache) (a : Area) (f : Faithful due g e a) (subject : List ℕ) (short : length subject ≤ 256) (few : length (due subject) ≤ 16) (stamp : ℕ) where
+  module _ (e : ResolveCache) (a : Area) (f : Faithful due g e a) (subject : List ℕ) (filled : 1 ≤ length subject) (short : length subject ≤ 256) (few : length (due subject) ≤ 16) (stamp : ℕ) where
     abbrev after : ℕ → Area
-    after i = keep a i subject (due subject) stamp
+    after i = keep (e .capacity) a i subject (due subject) stamp
 
     kept-at : (i : ℕ) → i < e .capacity → (d : ResolveCache) → d .capacity ≡ e .capacity → d .generation ≡ e .generation → e .generation .0 ≡ g → d .used ≤ d .capacity
-        → ((j : ℕ) → j ≢ i → j < d .used → j < e .used) → Faithful due g d (keep a i subject (due subject) stamp)
+        → ((j : ℕ) → j ≢ i → j < d .used → j < e .used) → Faithful due g d (keep (e .capacity) a i subject (due subject) stamp)
     kept-at i h d p q s t used =
         record {
-          wide = rw p (keep-wide (e .capacity) a (f .wide) i h subject (due subject) stamp short few);
+          wide = rw p (keep-wide (e .capacity) a (f .wide) i h subject (due subject) stamp filled short few);
           any = omega (arith, f .any);
           fits = t;
-          small = λ j k. slot j k (eqb j i) refl .0;
+          small = λ j k. rw p (slot j k (eqb j i) refl .0);
           past = rw q (omega arith);
-          right = λ r j k. slot j k (eqb j i) refl .1;
+          right = λ r j k. rw p (slot j k (eqb j i) refl .1);
         }
       where
         slot : (j : ℕ) → j < d .used → (b : Bool) → eqb j i ≡ b
-            → ((keyLength ((after i) .heads) j ≤ 256) × (targetCount ((after i) .heads) j ≤ 16))
-            × (targetsAt ((after i) .heads) ((after i) .kept) j ≡ due (keyAt ((after i) .heads) ((after i) .keys) j))
+            → Fit (e .capacity) ((after i) .keys) j
+            × (targetsAt (e .capacity) ((after i) .keys) ((after i) .kept) j ≡ due (keyAt (e .capacity) ((after i) .keys) j))
         slot j k true z =
-            let l = keep-length (e .capacity) a (f .wide) i h subject (due subject) stamp short few in
-            let n = keep-count (e .capacity) a (f .wide) i h subject (due subject) stamp short few in
-            let x = keep-key (e .capacity) a (f .wide) i h subject (due subject) stamp short few in
-            let y = keep-targets (e .capacity) a (f .wide) i h subject (due subject) stamp short few in
-            rw (eqb-true j i z) ((omega (arith, l), omega (arith, n)), y ∙ ap due (sym x))
+            let l = keep-fit (e .capacity) a (f .wide) i h subject (due subject) stamp filled short few in
+            let x = keep-key (e .capacity) a (f .wide) i h subject (due subject) stamp filled short few in
+            let y = keep-targets (e .capacity) a (f .wide) i h subject (due subject) stamp filled short few in
+            rw (eqb-true j i z) (l, y ∙ ap due (sym x))
         slot j k false z =
             let m = used j (eqb-false j i z) k in
-            let o = keep-other (e .capacity) a (f .wide) i h subject (due subject) stamp short few j (eqb-false j i z) (f .small j m .0) (f .small j m .1) in
-            ((omega (arith, o .length, f .small j m .0), omega (arith, o .count, f .small j m .1)), o .targets ∙ f .right s j m ∙ ap due (sym (o .key)))
+            let o = keep-other (e .capacity) a (f .wide) i h subject (due subject) stamp filled short few j (eqb-false j i z) (omega (arith, m, f .fits)) (f .small j m) in
+            (alike-fit (e .capacity) a (after i) j o (f .small j m), o .targets ∙ f .right s j m ∙ ap due (sym (o .key)))
 
-  touched : (e : ResolveCache) (a : Area) → Faithful due g e a → e .generation .0 ≡ g → (i : ℕ) → i < e .used → (stamp : ℕ) → Faithful due g (hit e) (touch a i stamp)
-  touched e a f q i h stamp = record {
-    wide = touch-wide (e .capacity) a (f .wide) i inside stamp;
+  touched : (e : ResolveCache) (a : Area) → Faithful due g e a → (i : ℕ) → i < e .used → (stamp : ℕ) → Faithful due g (hit e) (touch a i stamp)
+  touched e a f i h stamp = record {
+    wide = touch-wide (e .capacity) a (f .wide) i (omega (arith, f .fits)) stamp;
     any = f .any;
     fits = f .fits;
-    small = λ j k. let o = same j in (omega (arith, o .length, f .small j k .0), omega (arith, o .count, f .small j k .1));
+    small = f .small;
     past = f .past;
-    right = λ r j k. let o = same j in o .targets ∙ f .right q j k ∙ ap due (sym (o .key));
+    right = f .right;
   }
-    where
-      inside : i < e .capacity
-      inside = omega (arith, f .fits)
-
-      same : (j : ℕ) → Alike a (touch a i stamp) j
-      same j = touch-alike (e .capacity) a (f .wide) i inside stamp j
 
   module _ (c : ResolveCache) (a : Area) (subject out : List ℕ) (f : Faithful due g c a) where
     abbrev list : List ℕ
     list = due subject
 
-    module _ (e : ResolveCache) (fe : Faithful due g e a) (on : e .generation .0 ≡ g) where
-      hit-good : (i : ℕ) → i < e .used → keyAt (a .heads) (a .keys) i ≡ subject → Good due g (fitting (length out) list) (hitAt c a subject out e i)
+    module _ (filled : 1 ≤ length subject) (e : ResolveCache) (fe : Faithful due g e a) (on : e .generation .0 ≡ g) where
+      hit-good : (i : ℕ) → i < e .used → keyAt (e .capacity) (a .keys) i ≡ subject → Good due g (fitting (length out) list) (hitAt c a subject out e i)
       hit-good i h k =
           subst (λ n. Good due g (pick (ltb (length out) n) (turnedBack (answer 21 (n ∷ []))) (gives list)) (hitAt c a subject out e i)) size
-          (go (ltb (length out) (targetCount (a .heads) i)))
+          (go (ltb (length out) (targetCount (e .capacity) (a .keys) i)))
         where
-          due-here : targetsAt (a .heads) (a .kept) i ≡ list
+          due-here : targetsAt (e .capacity) (a .keys) (a .kept) i ≡ list
           due-here = fe .right on i h ∙ ap due k
 
-          size : targetCount (a .heads) i ≡ length list
-          size = sym (targets-length (e .capacity) a (fe .wide) i (omega (arith, fe .fits)) (fe .small i h .1)) ∙ ap length due-here
+          size : targetCount (e .capacity) (a .keys) i ≡ length list
+          size = sym (targets-length (e .capacity) a (fe .wide) i (omega (arith, fe .fits)) (fe .small i h .count)) ∙ ap length due-here
 
-          go : (b : Bool) → Good due g (pick b (turnedBack (answer 21 (targetCount (a .heads) i ∷ []))) (gives list))
-              (pick b (unchanged c a subject out (answer 21 (targetCount (a .heads) i ∷ [])))
-              (record { says = inKept (16 * i) (targetCount (a .heads) i); cache = hit e; area = touch a i (ticked e .0); out = out }))
+          go : (b : Bool) → Good due g (pick b (turnedBack (answer 21 (targetCount (e .capacity) (a .keys) i ∷ []))) (gives list))
+              (pick b (unchanged c a subject out (answer 21 (targetCount (e .capacity) (a .keys) i ∷ [])))
+              (record { says = inKept (16 * i) (targetCount (e .capacity) (a .keys) i); cache = hit e; area = touch a i (ticked e .0); out = out }))
           go true = (refl, f)
-          go false = (ap gives due-here, touched e a fe on i h (ticked e .0))
+          go false = (ap gives due-here, touched e a fe i h (ticked e .0))
 
       missed-good : Good due g (gives list) (missed c a subject out e list)
       missed-good = go (ltb 256 (length subject)) (ltb 16 (length list)) refl refl
@@ -193,23 +193,14 @@ module _ (due : List ℕ → List ℕ) (g : ℕ) where
           unkept : Faithful due g (walked e) a
           unkept = record { wide = fe .wide; any = fe .any; fits = fe .fits; small = fe .small; past = fe .past; right = fe .right }
 
-          -- the slot is inside, the slots used are, and the others were used before
-          grows : (b : Bool) → ltb (e .used) (e .capacity) ≡ b
-              → (pick b (e .used) (oldestFrom (a .heads) 0 1 (e .used - 1)) < e .capacity) × (pick b (suc (e .used)) (e .used) ≤ e .capacity)
-              × ((j : ℕ) → j ≢ pick b (e .used) (oldestFrom (a .heads) 0 1 (e .used - 1)) → j < pick b (suc (e .used)) (e .used) → j < e .used)
-          grows true q = (ltb-true (e .used) (e .capacity) q, omega (arith, ltb-true (e .used) (e .capacity) q), λ j n h. omega arith)
-          grows false q =
-              let full = ltb-false (e .used) (e .capacity) q in
-              (omega (arith, oldest-below (a .heads) 0 1 (e .used - 1) (e .capacity) (omega (arith, fe .any)) (omega (arith, fe .any, fe .fits))), fe .fits, λ j n h. h)
-
-          kept : length subject ≤ 256 → length list ≤ 16 → Faithful due g (grown e) (keep a (place e a) subject list (ticked e .0))
+          kept : length subject ≤ 256 → length list ≤ 16 → Faithful due g (grown e) (keep (e .capacity) a (place e a) subject list (ticked e .0))
           kept s t =
-              let k = grows (ltb (e .used) (e .capacity)) refl in
-              kept-at e a fe subject s t (ticked e .0) (place e a) (k .0) (grown e) refl refl on (k .1) (k .2)
+              let k = place-grows e a (fe .any) (fe .fits) in
+              kept-at e a fe subject filled s t (ticked e .0) (place e a) (k .inside) (grown e) refl refl on (k .fits) (k .others)
 
           go : (b d : Bool) → ltb 256 (length subject) ≡ b → ltb 16 (length list) ≡ d
               → Good due g (gives list) (pick (not (or b d))
-              (record { says = inOut (length list); cache = grown e; area = keep a (place e a) subject list (ticked e .0); out = over list out })
+              (record { says = inOut (length list); cache = grown e; area = keep (e .capacity) a (place e a) subject list (ticked e .0); out = over list out })
               (record { says = inOut (length list); cache = walked e; area = a; out = over list out }))
           go true d p q = (handed-out, unkept)
           go false true p q = (handed-out, unkept)
@@ -224,10 +215,10 @@ module _ (due : List ℕ → List ℕ) (g : ℕ) where
           go false = missed-good
 
       work-good : (peak : ℕ) → Good due g (fitting (length out) list) (work c a subject out e (found list peak))
-      work-good peak = go (findFrom (a .heads) (a .keys) subject 0 (e .used)) refl
+      work-good peak = go (findFrom (e .capacity) (a .keys) subject 0 (e .used)) refl
         where
-          go : (o : Option ℕ) → findFrom (a .heads) (a .keys) subject 0 (e .used) ≡ o → Good due g (fitting (length out) list) (workBy c a subject out o e (found list peak))
-          go (some i) q = let s = find-sound (a .heads) (a .keys) subject 0 (e .used) i q in hit-good i (omega (arith, s .below)) (s .key)
+          go : (o : Option ℕ) → findFrom (e .capacity) (a .keys) subject 0 (e .used) ≡ o → Good due g (fitting (length out) list) (workBy c a subject out o e (found list peak))
+          go (some i) q = let s = find-sound (e .capacity) (a .keys) subject 0 (e .used) i q in hit-good i (omega (arith, s .below)) (s .key)
           go none q = miss-good peak
 
     resolve-good : (w : Walked) → ((values : List ℕ) → grammar false subject ≡ answer 0 values → (peak : ℕ) × (w ≡ found list peak))
@@ -237,7 +228,7 @@ module _ (due : List ℕ → List ℕ) (g : ℕ) where
         good : bad c a ≡ false
         good =
             rw (ne-eqb (c .capacity) 0 (λ z. omega (arith, f .any)), le-ltb (c .capacity) (c .used) (f .fits))
-            (small-good (a .heads) 0 (c .used) (λ j p q. f .small j (omega arith)))
+            (small-good (c .capacity) (a .keys) 0 (c .used) (λ j p q. f .small j (omega arith)))
 
         go : (o : Answer) → grammar false subject ≡ o
             → Good due g (unlessText o (fitting (length out) list))
@@ -249,7 +240,7 @@ module _ (due : List ℕ → List ℕ) (g : ℕ) where
         go (answer zero values) q =
             let x = walks values q in
             let d = adopt-faithful c a f in
-            rw (wide-short (c .capacity) a (f .wide), good, x .1) (work-good (adopt (record { 0 = g }) c) (d .0) (d .1) (x .0))
+            rw (wide-short (c .capacity) a (f .wide), good, x .1) (work-good (accepted-some subject values q) (adopt (record { 0 = g }) c) (d .0) (d .1) (x .0))
 
   -- a resolve through a snapshot on which the table stands, and whose walk ends with what is due
   pub resolve-right : (c : ResolveCache) (a : Area) (s : Snapshot) (area subject out : List ℕ) → Faithful due g c a → s .generation .0 ≡ g → standsIn s area ≡ true

@@ -1,7 +1,7 @@
 -- 01's numbers of a cache, written out: what a definition that was changed together with the code would not meet.
 --
---   capacity-over, capacity-fits, heads-short, keys-short, kept-short
---                                   17 exactly over 1,024 slots, or where the area has less than three numbers, 256 bytes and 16 targets a slot
+--   capacity-over, capacity-fits, stamps-short, keys-short, kept-short
+--                                   17 exactly over 1,024 slots, or where the area has less than a stamp, 260 bytes and 16 targets a slot
 --   new-is                          DEFAULT_CAPACITY is 1,024
 --   lent-over                       17 of a lent state
 --   slot-size                       a slot takes at most 400 words or bytes in all
@@ -30,29 +30,29 @@ module _ (n : ℕ) (a : Area) where
   unfolding withCapacity
   capacity-over h = rw (lt-ltb 1024 (max 1 n) (omega arith))
 
-  pub capacity-fits : 1 ≤ n → n ≤ 1024 → 3 * n ≤ length (a .heads) → 256 * n ≤ length (a .keys) → 16 * n ≤ length (a .kept) → withCapacity n a ≡ answer 0 (n ∷ 0 ∷ 0 ∷ 0 ∷ 0 ∷ [])
+  pub capacity-fits : 1 ≤ n → n ≤ 1024 → n ≤ length (a .stamps) → 260 * n ≤ length (a .keys) → 16 * n ≤ length (a .kept) → withCapacity n a ≡ answer 0 (n ∷ 0 ∷ 0 ∷ 0 ∷ 0 ∷ [])
   unfolding withCapacity
-  capacity-fits some few heads keys kept =
+  capacity-fits some few stamps keys kept =
       let same : max 1 n ≡ n = omega arith in
-      rw (same, le-ltb 1024 n few, le-ltb (length (a .heads)) (3 * n) heads, le-ltb (length (a .keys)) (256 * n) keys, le-ltb (length (a .kept)) (16 * n) kept)
+      rw (same, le-ltb 1024 n few, le-ltb (length (a .stamps)) n stamps, le-ltb (length (a .keys)) (260 * n) keys, le-ltb (length (a .kept)) (16 * n) kept)
 
   -- one of the three lists is shorter than n slots
   module _ (some : 1 ≤ n) where
     same : max 1 n ≡ n
     same = omega arith
 
-    pub heads-short : length (a .heads) < 3 * n → withCapacity n a ≡ answer 17 []
+    pub stamps-short : length (a .stamps) < n → withCapacity n a ≡ answer 17 []
     unfolding withCapacity
-    heads-short h = rw (same, lt-ltb (length (a .heads)) (3 * n) h, or-true (ltb 1024 n))
+    stamps-short h = rw (same, lt-ltb (length (a .stamps)) n h, or-true (ltb 1024 n))
 
-    pub keys-short : length (a .keys) < 256 * n → withCapacity n a ≡ answer 17 []
+    pub keys-short : length (a .keys) < 260 * n → withCapacity n a ≡ answer 17 []
     unfolding withCapacity
-    keys-short h = rw (same, lt-ltb (length (a .keys)) (256 * n) h, or-true (ltb (length (a .heads)) (3 * n)), or-true (ltb 1024 n))
+    keys-short h = rw (same, lt-ltb (length (a .keys)) (260 * n) h, or-true (ltb (length (a .stamps)) n), or-true (ltb 1024 n))
 
     pub kept-short : length (a .kept) < 16 * n → withCapacity n a ≡ answer 17 []
     unfolding withCapacity
     kept-short h =
-        rw (same, lt-ltb (length (a .kept)) (16 * n) h, or-true (ltb (length (a .keys)) (256 * n)), or-true (ltb (length (a .heads)) (3 * n)), or-true (ltb 1024 n))
+        rw (same, lt-ltb (length (a .kept)) (16 * n) h, or-true (ltb (length (a .keys)) (260 * n)), or-true (ltb (length (a .stamps)) n), or-true (ltb 1024 n))
 
 pub new-is : (a : Area) → newCache a ≡ withCapacity 1024 a
 new-is a = refl
@@ -62,6 +62,6 @@ pub lent-over : (c : ResolveCache) (a : Area) (s : Snapshot) (area subject out v
 unfolding resolve
 lent-over c a s area subject out values g h = rw (g, lt-ltb 1024 (c .capacity) h)
 
--- "a slot taking at most 400 words or bytes in all": three numbers of eight bytes, 256 bytes, 16 targets of four
-pub slot-size : (3 + 256 + 16 ≤ 400) × (3 * 8 + 256 + 16 * 4 ≤ 400)
+-- "a slot taking at most 400 words or bytes in all": a stamp of eight bytes, four bytes of lists and 256 of a key, 16 targets of four
+pub slot-size : (1 + 260 + 16 ≤ 400) × (8 + 260 + 16 * 4 ≤ 400)
 slot-size = (omega arith, omega arith)

@@ -28,11 +28,11 @@ Leaves c a out r (answer (suc n) values) = (r .cache ≡ c) × (r .area ≡ a) �
 
 module _ (c : ResolveCache) (a : Area) (subject out : List ℕ) where
   hit-leaves : (e : ResolveCache) (i : ℕ) → Leaves c a out (hitAt c a subject out e i) ((hitAt c a subject out e i) .says)
-  hit-leaves e i = go (ltb (length out) (targetCount (a .heads) i))
+  hit-leaves e i = go (ltb (length out) (targetCount (e .capacity) (a .keys) i))
     where
       go : (b : Bool)
-          → let r : Resolved = pick b (unchanged c a subject out (answer 21 (targetCount (a .heads) i ∷ [])))
-          (record { says = inKept (16 * i) (targetCount (a .heads) i); cache = hit e; area = touch a i (ticked e .0); out = out }) in
+          → let r : Resolved = pick b (unchanged c a subject out (answer 21 (targetCount (e .capacity) (a .keys) i ∷ [])))
+          (record { says = inKept (16 * i) (targetCount (e .capacity) (a .keys) i); cache = hit e; area = touch a i (ticked e .0); out = out }) in
           Leaves c a out r (r .says)
       go true = (refl, refl, refl)
       go false = inl refl
@@ -44,7 +44,7 @@ module _ (c : ResolveCache) (a : Area) (subject out : List ℕ) where
       go : (b d : Bool)
           → let r : Resolved = pick b (unchanged c a subject out (answer 21 (length list ∷ [])))
           (pick d
-          (record { says = inOut (length list); cache = grown e; area = keep a (place e a) subject list (ticked e .0); out = over list out })
+          (record { says = inOut (length list); cache = grown e; area = keep (e .capacity) a (place e a) subject list (ticked e .0); out = over list out })
           (record { says = inOut (length list); cache = walked e; area = a; out = over list out })) in
           Leaves c a out r (r .says)
       go true d = (refl, refl, refl)
@@ -66,10 +66,10 @@ module _ (c : ResolveCache) (a : Area) (subject out : List ℕ) where
           → let r : Resolved = ifAccepted c a subject out g
           (pick b (unchanged c a subject out (answer 17 []))
           (pick d (unchanged c a subject out (answer 18 []))
-          (pick f (workBy c a subject out (findFrom (a .heads) (a .keys) subject 0 (e .used)) e (walkOf s area subject)) (unchanged c a subject out (answer 19 []))))) in
+          (pick f (workBy c a subject out (findFrom (e .capacity) (a .keys) subject 0 (e .used)) e (walkOf s area subject)) (unchanged c a subject out (answer 19 []))))) in
           Leaves c a out r (r .says)
       go (answer (suc n) values) b d f = (refl, refl, refl)
       go (answer zero values) true d f = (refl, refl, refl)
       go (answer zero values) false true f = (refl, refl, refl)
       go (answer zero values) false false false = (refl, refl, refl)
-      go (answer zero values) false false true = work-leaves (findFrom (a .heads) (a .keys) subject 0 (e .used)) e (walkOf s area subject)
+      go (answer zero values) false false true = work-leaves (findFrom (e .capacity) (a .keys) subject 0 (e .used)) e (walkOf s area subject)

@@ -14,4 +14,4 @@ cacheAnswer MadeShort = answer 17 []
 
 -- the three lent lists as an area
 abbrev pub lent : List ℕ → List ℕ → List ℕ → Area
-lent heads keys kept = record { heads = heads; keys = keys; kept = kept }
+lent stamps keys kept = record { stamps = stamps; keys = keys; kept = kept }

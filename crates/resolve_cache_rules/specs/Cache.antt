@@ -5,7 +5,7 @@ use mathlib.Core.List.{List, [], _∷_}
 use mathlib.Core.Option.{Option, none, some}
 use lib.Dec.{eqb, ltb}
 use lib.ListN.{length, getD}
-use Rattle.subject_rules.specs.Choice.{pick, or}
+use Rattle.subject_rules.specs.Choice.{pick, and, or}
 use Rattle.subject_rules.specs.Text.{same}
 use Rattle.subject_rules.specs.Answers.{Answer, answer}
 use Rattle.subject_rules.specs.Grammar.{grammar}
@@ -16,43 +16,50 @@ use Rattle.sublist_snapshot.specs.declared.Snapshot.{Snapshot}
 use Rattle.sublist_snapshot.specs.Snapshot.{wrap, standsIn, walkOf}
 use Rattle.resolve_cache_rules.specs.declared.Tick.{Tick}
 use Rattle.resolve_cache_rules.specs.declared.ResolveCache.{ResolveCache}
-use Rattle.resolve_cache_rules.specs.Area.{Area, keyLength, targetCount, stampAt, keyAt, keep, touch}
+use Rattle.resolve_cache_rules.specs.Mark.{mark}
+use Rattle.resolve_cache_rules.specs.Area.{Area, keyLength, targetCount, markAt, stampAt, keyAt, keep, touch}
 
 -- 17: capacity over 1,024, or the lent store is smaller than capacity slots
 abbrev pub short : ℕ → Area → Bool
 short capacity a =
     or (ltb 1024 capacity)
-    (or (ltb (length (a .heads)) (3 * capacity))
-    (or (ltb (length (a .keys)) (256 * capacity))
+    (or (ltb (length (a .stamps)) capacity)
+    (or (ltb (length (a .keys)) (260 * capacity))
     (ltb (length (a .kept)) (16 * capacity))))
 
 -- a slot has a key over 256 bytes or over 16 targets
-abbrev pub badSlot : List ℕ → ℕ → Bool
-badSlot heads i = or (ltb 256 (keyLength heads i)) (ltb 16 (targetCount heads i))
+abbrev pub badSlot : ℕ → List ℕ → ℕ → Bool
+badSlot c keys i = or (ltb 256 (keyLength c keys i)) (ltb 16 (targetCount c keys i))
 
 -- one of n slots from i on does
-abbrev pub badFrom : List ℕ → ℕ → ℕ → Bool
-badFrom heads i zero = false
-badFrom heads i (suc n) = or (badSlot heads i) (badFrom heads (suc i) n)
+abbrev pub badFrom : ℕ → List ℕ → ℕ → ℕ → Bool
+badFrom c keys i zero = false
+badFrom c keys i (suc n) = or (badSlot c keys i) (badFrom c keys (suc i) n)
 
 -- 18: capacity is 0, more slots are used than capacity, or a used slot is bad
 abbrev pub bad : ResolveCache → Area → Bool
-bad c a = or (eqb (c .capacity) 0) (or (ltb (c .capacity) (c .used)) (badFrom (a .heads) 0 (c .used)))
+bad c a =
+    or (eqb (c .capacity) 0) (or (ltb (c .capacity) (c .used)) (badFrom (c .capacity) (a .keys) 0 (c .used)))
 
--- the first of n slots from i on that keeps the subject
-abbrev pub findFrom : List ℕ → List ℕ → List ℕ → ℕ → ℕ → Option ℕ
-findFrom heads keys subject i zero = none
-findFrom heads keys subject i (suc n) =
-    pick (same (keyAt heads keys i) subject) (some i) (findFrom heads keys subject (suc i) n)
+-- a slot keeps a subject if its mark and its bytes are the subject's
+abbrev pub keepsAt : ℕ → List ℕ → List ℕ → ℕ → Bool
+keepsAt c keys subject i = and (eqb (markAt c keys i) (mark subject)) (same (keyAt c keys i) subject)
+
+-- the first of n slots from i on that does
+abbrev pub findFrom : ℕ → List ℕ → List ℕ → ℕ → ℕ → Option ℕ
+findFrom c keys subject i zero = none
+findFrom c keys subject i (suc n) =
+    pick (keepsAt c keys subject i) (some i) (findFrom c keys subject (suc i) n)
 
 -- the slot of smallest stamp among best and n slots from i on, the lowest on a tie
 abbrev pub oldestFrom : List ℕ → ℕ → ℕ → ℕ → ℕ
-oldestFrom heads best i zero = best
-oldestFrom heads best i (suc n) = oldestFrom heads (pick (ltb (stampAt heads i) (stampAt heads best)) i best) (suc i) n
+oldestFrom stamps best i zero = best
+oldestFrom stamps best i (suc n) =
+    oldestFrom stamps (pick (ltb (stampAt stamps i) (stampAt stamps best)) i best) (suc i) n
 
 -- the slot that a new list goes to: the first unused one, or the one of smallest stamp
 abbrev pub place : ResolveCache → Area → ℕ
-place c a = pick (ltb (c .used) (c .capacity)) (c .used) (oldestFrom (a .heads) 0 1 (c .used - 1))
+place c a = pick (ltb (c .used) (c .capacity)) (c .used) (oldestFrom (a .stamps) 0 1 (c .used - 1))
 
 -- generation, tick and walks 0
 abbrev pub fresh : ℕ → ResolveCache
@@ -148,7 +155,7 @@ module _ (c : ResolveCache) (a : Area) (subject out : List ℕ) where
       (record {
         says = inOut (length list);
         cache = grown e;
-        area = keep a (place e a) subject list (ticked e .0);
+        area = keep (e .capacity) a (place e a) subject list (ticked e .0);
         out = over list out;
       })
       (record { says = inOut (length list); cache = walked e; area = a; out = over list out })
@@ -156,9 +163,10 @@ module _ (c : ResolveCache) (a : Area) (subject out : List ℕ) where
   -- 21, then a hit: it stamps the slot and leaves the output
   abbrev pub hitAt : ResolveCache → ℕ → Resolved
   hitAt e i =
-      pick (ltb (length out) (targetCount (a .heads) i)) (unchanged (answer 21 (targetCount (a .heads) i ∷ [])))
+      let count = targetCount (e .capacity) (a .keys) i in
+      pick (ltb (length out) count) (unchanged (answer 21 (count ∷ [])))
       (record {
-        says = inKept (16 * i) (targetCount (a .heads) i);
+        says = inKept (16 * i) count;
         cache = hit e;
         area = touch a i (ticked e .0);
         out = out;
@@ -175,7 +183,7 @@ module _ (c : ResolveCache) (a : Area) (subject out : List ℕ) where
   workBy none e w = miss e w
 
   abbrev pub work : ResolveCache → Walked → Resolved
-  work e w = workBy (findFrom (a .heads) (a .keys) subject 0 (e .used)) e w
+  work e w = workBy (findFrom (e .capacity) (a .keys) subject 0 (e .used)) e w
 
   -- 1 to 9 come first
   abbrev pub ifAccepted : Answer → Resolved → Resolved

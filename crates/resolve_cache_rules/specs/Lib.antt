@@ -1,4 +1,5 @@
 -- The resolve cache: its area, its state and its calls.
+pub mod Mark
 pub mod Area
 pub mod Cache
 pub mod Answers

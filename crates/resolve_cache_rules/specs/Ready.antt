@@ -7,13 +7,13 @@ use lib.ListN.{length}
 use Rattle.subject_rules.specs.Answers.{answer}
 use Rattle.subject_rules.specs.Grammar.{grammar}
 use Rattle.resolve_cache_rules.specs.declared.ResolveCache.{ResolveCache}
-use Rattle.resolve_cache_rules.specs.Area.{Area, keyLength}
+use Rattle.resolve_cache_rules.specs.Area.{Area, keyLength, targetCount}
 
 -- the three lists have room for n slots, 1,024 at the most
 pub record Wide (n : ℕ) (a : Area) : Type 0 where
   pub few : n ≤ 1024
-  pub heads : 3 * n ≤ length (a .heads)
-  pub keys : 256 * n ≤ length (a .keys)
+  pub stamps : n ≤ length (a .stamps)
+  pub keys : 260 * n ≤ length (a .keys)
   pub kept : 16 * n ≤ length (a .kept)
 
 -- 17 and 18 on the capacity do not apply
@@ -26,6 +26,6 @@ pub record Ready (c : ResolveCache) (a : Area) : Type 0 where
 abbrev pub Accepted : List ℕ → Type 0
 Accepted subject = (n : ℕ) × (grammar false subject ≡ answer 0 (n ∷ []))
 
--- the first n slots have keys of at most 256 bytes
-abbrev pub Small : List ℕ → ℕ → Type 0
-Small heads n = (i : ℕ) → i < n → keyLength heads i ≤ 256
+-- the first n slots of c have keys of at most 256 bytes and at most 16 targets
+abbrev pub Small : ℕ → List ℕ → ℕ → Type 0
+Small c keys n = (i : ℕ) → i < n → (keyLength c keys i ≤ 256) × (targetCount c keys i ≤ 16)

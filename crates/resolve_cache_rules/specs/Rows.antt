@@ -1,34 +1,63 @@
 -- Rows of ours, not 01's: what 01 says of a cache and only a definition carries, with 01's numbers written out.
-use Prim.Native.Nat.{ℕ, _-_, _^_}
+use Prim.Native.Nat.{ℕ, _+_, _*_, _-_, _/_, _%_, _^_}
 use mathlib.Core.Path.{_≡_}
-use mathlib.Core.List.{List, [], _∷_, _++_}
-use lib.ListN.{length, replicate}
+use mathlib.Core.List.{List, [], _∷_, _++_, map}
+use lib.ListN.{length, take, replicate}
 use Rattle.subject_rules.specs.Answers.{Answer, answer}
 use Rattle.sublist_tree.specs.Timetable.{bytes}
+use Rattle.sublist_walk_rules.specs.Walk.{part}
 use Rattle.sublist_snapshot.specs.declared.Snapshot.{Snapshot}
 use Rattle.sublist_snapshot.specs.Rows.{snapshot, upTo, catchAll}
 use Rattle.resolve_cache_rules.specs.declared.ResolveCache.{ResolveCache}
-use Rattle.resolve_cache_rules.specs.Area.{Area}
+use Rattle.resolve_cache_rules.specs.Mark.{mark}
+use Rattle.resolve_cache_rules.specs.Area.{Area, keep}
 use Rattle.resolve_cache_rules.specs.Cache.{withCapacity, clear, resolve}
 
--- a slot as it is lent: a key, its targets, its stamp; what a slot does not use is 7
+-- a slot as it is lent: a key, its targets, its stamp, and the key's mark or another; what a slot does not use is 7
 pub data Slot : Type 0 where
   slot : (key targets : List ℕ) (stamp : ℕ) → Slot
+  marked : (mark : ℕ) (key targets : List ℕ) (stamp : ℕ) → Slot
 
-abbrev pub slotHeads : List Slot → List ℕ
-slotHeads [] = []
-slotHeads (slot key targets stamp ∷ ss) = length key ∷ length targets ∷ stamp ∷ slotHeads ss
+abbrev pub keyOf : Slot → List ℕ
+keyOf (slot key targets stamp) = key
+keyOf (marked m key targets stamp) = key
 
-abbrev pub slotKeys : List Slot → List ℕ
-slotKeys [] = []
-slotKeys (slot key targets stamp ∷ ss) = key ++ (replicate (256 - length key) 7 ++ slotKeys ss)
+abbrev pub targetsOf : Slot → List ℕ
+targetsOf (slot key targets stamp) = targets
+targetsOf (marked m key targets stamp) = targets
 
-abbrev pub slotTargets : List Slot → List ℕ
-slotTargets [] = []
-slotTargets (slot key targets stamp ∷ ss) = targets ++ (replicate (16 - length targets) 7 ++ slotTargets ss)
+abbrev pub stampOf : Slot → ℕ
+stampOf (slot key targets stamp) = stamp
+stampOf (marked m key targets stamp) = stamp
+
+abbrev pub markOf : Slot → ℕ
+markOf (slot key targets stamp) = mark key
+markOf (marked m key targets stamp) = m
+
+-- the bytes of the four lists
+abbrev pub firstOf : Slot → ℕ
+firstOf s = (length (keyOf s) - 1) % 256
+
+abbrev pub secondOf : Slot → ℕ
+secondOf s = length (targetsOf s) + 32 * ((length (keyOf s) - 1) / 256)
+
+abbrev pub thirdOf : Slot → ℕ
+thirdOf s = markOf s % 256
+
+abbrev pub fourthOf : Slot → ℕ
+fourthOf s = markOf s / 256
+
+-- one list behind the other, and filled up with 7
+abbrev pub filled : (Slot → List ℕ) → ℕ → List Slot → List ℕ
+filled of width [] = []
+filled of width (s ∷ ss) = of s ++ (replicate (width - length (of s)) 7 ++ filled of width ss)
 
 abbrev pub slots : List Slot → Area
-slots ss = record { heads = slotHeads ss; keys = slotKeys ss; kept = slotTargets ss }
+slots ss = record {
+  stamps = map stampOf ss;
+  keys = map firstOf ss ++ (map secondOf ss ++ (map thirdOf ss ++ (map fourthOf ss ++ filled keyOf 256 ss)));
+  kept = filled targetsOf 16 ss;
+}
 
 -- capacity, slots used, generation, tick, walks
 abbrev pub cache : ℕ → ℕ → ℕ → ℕ → ℕ → ResolveCache
@@ -77,6 +106,11 @@ pub data Row : Type 0 where
   asMaking : (capacity room : ℕ) (says : Answer) → Row
   -- a cache, and what a clear leaves
   asClear : (c then′ : ResolveCache) → Row
+  -- a text, and its mark
+  asMark : (text : List ℕ) (is : ℕ) → Row
+  -- a key, targets and a stamp kept in slot i of c, where all was 7: the stamps, the lists of bytes, the key with the
+  -- byte behind it, the kept targets
+  asKept : (c i : ℕ) (key targets : List ℕ) (stamp : ℕ) (stamps lists keys kept : List ℕ) → Row
 
 abbrev pub holds : Row → Type 0
 holds (asResolve c ss t subject out says then′ left written) =
@@ -87,6 +121,14 @@ holds (asRefused c ss t subject out says) =
     ≡ record { says = says; cache = c; area = slots ss; out = out }
 holds (asMaking capacity room says) = withCapacity capacity (slots (replicate room (slot [] [] 0))) ≡ says
 holds (asClear c then′) = clear c ≡ then′
+holds (asMark text is) = mark text ≡ is
+holds (asKept c i key targets stamp stamps lists keys kept) =
+    let a : Area = record { stamps = replicate c 7; keys = replicate (260 * c) 7; kept = replicate (16 * c) 7 } in
+    let b = keep c a i key targets stamp in
+    (b .stamps ≡ stamps)
+    × (take (4 * c) (b .keys) ≡ lists)
+    × (part (b .keys) (4 * c + 256 * i) (length key + 1) ≡ keys)
+    × (b .kept ≡ kept)
 
 -- where an accepted resolve's list lies
 abbrev pub kept : ℕ → ℕ → Answer
@@ -179,6 +221,29 @@ rows =
     (answer 21 (2 ∷ []))
     ∷ asRefused (cache 1 1 0 5 3) (slot (bytes "p") (9 ∷ []) 5 ∷ []) (table 2 (8 ∷ 9 ∷ [])) (bytes "a") (7 ∷ [])
     (answer 21 (2 ∷ []))
+    -- a slot keeps a subject if its mark and its bytes are the subject's: the bytes alone do not do, nor does the mark
+    ∷ asResolve (cache 2 1 0 5 3) (marked 0x6294 (bytes "p") (9 ∷ []) 5 ∷ slot [] [] 0 ∷ []) (table 0 (3 ∷ []))
+    (bytes "p") (7 ∷ [])
+    (walked 1) (cache 2 2 0 6 4) (marked 0x6294 (bytes "p") (9 ∷ []) 5 ∷ slot (bytes "p") (3 ∷ []) 6 ∷ []) (3 ∷ [])
+    ∷ asResolve (cache 2 1 0 5 3) (marked 0x6293 (bytes "q") (9 ∷ []) 5 ∷ slot [] [] 0 ∷ []) (table 0 (3 ∷ []))
+    (bytes "p") (7 ∷ [])
+    (walked 1) (cache 2 2 0 6 4) (marked 0x6293 (bytes "q") (9 ∷ []) 5 ∷ slot (bytes "p") (3 ∷ []) 6 ∷ []) (3 ∷ [])
+    -- the second of equal keys answers, where the first one's mark is another; both bytes of a mark count
+    ∷ asResolve (cache 2 2 0 5 3) (marked 0x6393 (bytes "p") (8 ∷ []) 4 ∷ marked 0x6293 (bytes "p") (1 ∷ []) 5 ∷ [])
+    (table 0 []) (bytes "p") (7 ∷ [])
+    (kept 16 1) (cache 2 2 0 6 3) (marked 0x6393 (bytes "p") (8 ∷ []) 4 ∷ marked 0x6293 (bytes "p") (1 ∷ []) 6 ∷ [])
+    (7 ∷ [])
+    -- marks, as a program apart from this one gives them
+    ∷ asMark (bytes "p") 0x6293
+    ∷ asMark (bytes "yard.17") 0x6577
+    ∷ asMark (bytes "yard.177") 0xb877
+    ∷ asMark (bytes "yard.1777") 0x13ed
+    ∷ asMark (bytes "yard.north.track.17.signal") 0x43bb
+    ∷ asMark (long 256) 0xd1b5
+    -- where a slot lies, as docs/LAYOUT.md has it
+    ∷ asKept 2 1 (bytes "yard.17") (5 ∷ 6 ∷ []) 9
+    (7 ∷ 9 ∷ []) (7 ∷ 6 ∷ 7 ∷ 2 ∷ 7 ∷ 0x77 ∷ 7 ∷ 0x65 ∷ []) (bytes "yard.17" ++ (7 ∷ []))
+    (replicate 16 7 ++ (5 ∷ 6 ∷ replicate 14 7))
     -- "`clear` empties and sets tick 0; generation and walks remain"
     ∷ asClear (cache 2 1 4 5 3) (cache 2 0 4 0 3)
     ∷ []

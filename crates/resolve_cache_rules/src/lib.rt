@@ -8,10 +8,11 @@ ghost use Rattle.resolve_cache_rules.specs.Cache.{short, withCapacity, n
 ghost use Rattle.resolve_cache_rules.specs.Answers.{cacheAnswer, lent};
 use sublist_snapshot::Generation;
 
-// What a slot takes: numbers of `heads`, bytes of `keys`, targets of `kept`.
-pub const SLOT_NUMBERS: usize = 3;
+// What a slot takes: one number of `stamps`; of `keys` a byte in each of four lists and the bytes of its key; targets
+// of `kept`.
+pub const SLOT_LISTS: usize = 4;
 
-pub const SLOT_BYTES: usize = 256;
+pub const KEY_BYTES: usize = 256;
 
 pub const SLOT_TARGETS: usize = 16;
 
@@ -38,13 +39,13 @@ impl ResolveCache {
     pub const DEFAULT_CAPACITY: usize = 1024;
 
     // A fresh cache of so many slots, one at the least, in the lent area.
-    pub fn with_capacity(capacity: usize, heads: &[u64], keys: &[u8], kept: &[u32]) -> MadeCache
+    pub fn with_capacity(capacity: usize, stamps: &[u64], keys: &[u8], kept: &[u32]) -> MadeCache
         ensures { λ r. ⌜
             cacheAnswer r
-            ≡ withCapacity capacity (lent (now (heads .entry)) (now (keys .entry)) (now (kept .entry))) ⌝ }
+            ≡ withCapacity capacity (lent (now (stamps .entry)) (now (keys .entry)) (now (kept .entry))) ⌝ }
     {
         let slots = at_least_one(capacity);
-        if is_short(slots, heads, keys, kept) {
+        if is_short(slots, stamps, keys, kept) {
             return MadeCache::CacheShort;
         }
         MadeCache::Made(ResolveCache {
@@ -57,12 +58,12 @@ impl ResolveCache {
     }
 
     // A fresh cache of 1,024 slots.
-    pub fn new(heads: &[u64], keys: &[u8], kept: &[u32]) -> MadeCache
+    pub fn new(stamps: &[u64], keys: &[u8], kept: &[u32]) -> MadeCache
         ensures { λ r. ⌜
             cacheAnswer r
-            ≡ newCache (lent (now (heads .entry)) (now (keys .entry)) (now (kept .entry))) ⌝ }
+            ≡ newCache (lent (now (stamps .entry)) (now (keys .entry)) (now (kept .entry))) ⌝ }
     {
-        ResolveCache::with_capacity(ResolveCache::DEFAULT_CAPACITY, heads, keys, kept)
+        ResolveCache::with_capacity(ResolveCache::DEFAULT_CAPACITY, stamps, keys, kept)
     }
 
     // The most subjects that the cache keeps lists for.
@@ -119,17 +120,17 @@ fn at_least_one(capacity: usize) -> usize
 }
 
 // 17: capacity over 1,024, or a list that is too short for so many slots.
-pub fn is_short(capacity: usize, heads: &[u64], keys: &[u8], kept: &[u32]) -> bool
+pub fn is_short(capacity: usize, stamps: &[u64], keys: &[u8], kept: &[u32]) -> bool
     ensures { λ r. ⌜
-        r ≡ short capacity (lent (now (heads .entry)) (now (keys .entry)) (now (kept .entry))) ⌝ }
+        r ≡ short capacity (lent (now (stamps .entry)) (now (keys .entry)) (now (kept .entry))) ⌝ }
 {
     if ResolveCache::DEFAULT_CAPACITY < capacity {
         return true;
     }
-    if heads.len() < SLOT_NUMBERS * capacity {
+    if stamps.len() < capacity {
         return true;
     }
-    if keys.len() < SLOT_BYTES * capacity {
+    if keys.len() < (SLOT_LISTS + KEY_BYTES) * capacity {
         return true;
     }
     kept.len() < SLOT_TARGETS * capacity

@@ -26,12 +26,12 @@ keys-after c a out r (answer (suc n) values) l = ap (λ (b : Area). b .keys) (l 
 same-left : (r : Returned) (h h′ k k′ t t′ o o′ : List ℕ) → h ≡ h′ → k ≡ k′ → t ≡ t′ → o ≡ o′ → left r (lent h k t) o ≡ left r (lent h′ k′ t′) o′
 same-left r h h′ k k′ t t′ o o′ e f g p = rw (e, f, g, p)
 
--- r and the lists afterwards are what a resolve on numbers returned and left; h, t and o are the bytes of heads, kept targets and output then
+-- r and the lists afterwards are what a resolve on numbers returned and left; h, t and o are the bytes of stamps, kept targets and output then
 pub put-back : (r : Returned) (longs keys words outs : List ℕ) (c : ResolveCache) (s : Snapshot) (area subject : List ℕ) (old oldWords oldOuts : List ℕ) (a : Area) (out : List ℕ)
     → let says = resolveAnswer (r .answer) in
     left r (lent longs keys words) outs ≡ resolve c (lent old (a .keys) oldWords) s area subject oldOuts
     → (h t o : List ℕ)
-    → (h ≡ afterAnswer says (over (bytesOf 8 longs) (a .heads)) (a .heads))
+    → (h ≡ afterAnswer says (over (bytesOf 8 longs) (a .stamps)) (a .stamps))
     × (t ≡ afterAnswer says (over (bytesOf 4 words) (a .kept)) (a .kept))
     × (o ≡ afterAnswer says (over (bytesOf 4 outs) out) out)
     → left r (lent h keys t) o ≡ inBytes (resolve c (lent old (a .keys) oldWords) s area subject oldOuts) a out

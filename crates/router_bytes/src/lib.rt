@@ -342,24 +342,24 @@ fn is_resolved(r: Resolved) -> bool
     }
 }
 
-// The numbers of an accepted resolve go over the first bytes of heads, kept targets and output; a refusal leaves them.
+// The numbers of an accepted resolve go over the first bytes of stamps, kept targets and output; a refusal leaves them.
 fn put_all_back(
     r: Resolved,
     longs: &[u64],
     kept_words: &[u32],
     out_words: &[u32],
-    heads: &mut [u8],
+    stamps: &mut [u8],
     kept: &mut [u8],
     out: &mut [u8],
 )
     requires { ⌜
-        (length (now longs) * 8 ≤ length (now heads))
+        (length (now longs) * 8 ≤ length (now stamps))
         × (length (now «kept_words») * 4 ≤ length (now kept))
         × (length (now «out_words») * 4 ≤ length (now out)) ⌝ }
     ensures { λ _. ⌜
-        (now (heads .exit)
+        (now (stamps .exit)
         ≡ afterAnswer (resolveAnswer (r .answer))
-        (over (bytesOf 8 (now (longs .entry))) (now (heads .entry))) (now (heads .entry)))
+        (over (bytesOf 8 (now (longs .entry))) (now (stamps .entry))) (now (stamps .entry)))
         × (now (kept .exit)
         ≡ afterAnswer (resolveAnswer (r .answer))
         (over (bytesOf 4 (now («kept_words» .entry))) (now (kept .entry))) (now (kept .entry)))
@@ -368,13 +368,13 @@ fn put_all_back(
         (over (bytesOf 4 (now («out_words» .entry))) (now (out .entry))) (now (out .entry))) ⌝ }
 {
     if is_resolved(r) {
-        store_longs(longs, heads);
+        store_longs(longs, stamps);
         store_words(kept_words, kept);
         store_words(out_words, out);
     }
 }
 
-// The resolve on numbers copied from the bytes of heads, kept targets and output: an accepted one writes them back.
+// The resolve on numbers copied from the bytes of stamps, kept targets and output: an accepted one writes them back.
 fn resolve_copied(
     cache: ResolveCache,
     longs: &mut [u64],
@@ -384,19 +384,19 @@ fn resolve_copied(
     area_words: &[u32],
     subject: &[u8],
     out_words: &mut [u32],
-    heads: &mut [u8],
+    stamps: &mut [u8],
     kept: &mut [u8],
     out: &mut [u8],
 ) -> Resolved
     requires { ⌜
-        (length (now longs) * 8 ≤ length (now heads))
+        (length (now longs) * 8 ≤ length (now stamps))
         × (length (now «kept_words») * 4 ≤ length (now kept))
         × (length (now «out_words») * 4 ≤ length (now out)) ⌝ }
     ensures { λ r. ⌜
-        left r (lent (now (heads .exit)) (now (keys .exit)) (now (kept .exit))) (now (out .exit))
+        left r (lent (now (stamps .exit)) (now (keys .exit)) (now (kept .exit))) (now (out .exit))
         ≡ inBytes (resolve cache (lent (now (longs .entry)) (now (keys .entry)) (now («kept_words» .entry)))
         snapshot (now («area_words» .entry)) (now (subject .entry)) (now («out_words» .entry)))
-        (lent (now (heads .entry)) (now (keys .entry)) (now (kept .entry))) (now (out .entry)) ⌝ }
+        (lent (now (stamps .entry)) (now (keys .entry)) (now (kept .entry))) (now (out .entry)) ⌝ }
 {
     let resolved = resolve_cache::resolve(
         cache,
@@ -408,14 +408,14 @@ fn resolve_copied(
         subject,
         out_words,
     );
-    put_all_back(resolved, longs, kept_words, out_words, heads, kept, out);
+    put_all_back(resolved, longs, kept_words, out_words, stamps, kept, out);
     resolved
 }
 
-// The resolve with the numbers of heads, kept targets, area and output copied from their bytes.
+// The resolve with the numbers of stamps, kept targets, area and output copied from their bytes.
 fn resolve_copies(
     cache: ResolveCache,
-    heads: &mut [u8],
+    stamps: &mut [u8],
     keys: &mut [u8],
     kept: &mut [u8],
     snapshot: Snapshot,
@@ -428,17 +428,17 @@ fn resolve_copies(
     out_words: &mut [u32],
 ) -> Resolved
     requires { ⌜
-        (length (now heads) ≤ length (now longs) * 8)
+        (length (now stamps) ≤ length (now longs) * 8)
         × (length (now kept) ≤ length (now «kept_words») * 4)
         × (length (now area) ≤ length (now «area_words») * 4)
         × (length (now out) ≤ length (now «out_words») * 4) ⌝ }
     ensures { λ r. ⌜
-        left r (lent (now (heads .exit)) (now (keys .exit)) (now (kept .exit))) (now (out .exit))
-        ≡ inBytes (resolve cache (inNumbers (lent (now (heads .entry)) (now (keys .entry)) (now (kept .entry))))
+        left r (lent (now (stamps .exit)) (now (keys .exit)) (now (kept .exit))) (now (out .exit))
+        ≡ inBytes (resolve cache (inNumbers (lent (now (stamps .entry)) (now (keys .entry)) (now (kept .entry))))
         snapshot (wordsIn (now (area .entry))) (now (subject .entry)) (wordsIn (now (out .entry))))
-        (lent (now (heads .entry)) (now (keys .entry)) (now (kept .entry))) (now (out .entry)) ⌝ }
+        (lent (now (stamps .entry)) (now (keys .entry)) (now (kept .entry))) (now (out .entry)) ⌝ }
 {
-    let n = load_longs(heads, longs);
+    let n = load_longs(stamps, longs);
     let m = load_words(kept, kept_words);
     let l = load_words(area, area_words);
     let k = load_words(out, out_words);
@@ -451,7 +451,7 @@ fn resolve_copies(
         &area_words[..l],
         subject,
         &mut out_words[..k],
-        heads,
+        stamps,
         kept,
         out,
     )
@@ -471,11 +471,11 @@ fn told(r: Resolved) -> BytesResolved
     }
 }
 
-// The resolve on areas of bytes, eight bytes a number of `heads` and four a word of the others; whole ones count.
-// 99 if heads, kept, area and out are together more than the copies hold.
+// The resolve on areas of bytes, eight bytes a number of `stamps` and four a word of the others; whole ones count.
+// 99 if stamps, kept, area and out are together more than the copies hold.
 pub fn resolve_bytes(
     cache: ResolveCache,
-    heads: &mut [u8],
+    stamps: &mut [u8],
     keys: &mut [u8],
     kept: &mut [u8],
     snapshot: Snapshot,
@@ -484,11 +484,11 @@ pub fn resolve_bytes(
     out: &mut [u8],
 ) -> BytesResolved
     ensures { λ r. ⌜
-        leftBytes r (lent (now (heads .exit)) (now (keys .exit)) (now (kept .exit))) (now (out .exit))
-        ≡ resolveBytes cache (lent (now (heads .entry)) (now (keys .entry)) (now (kept .entry)))
+        leftBytes r (lent (now (stamps .exit)) (now (keys .exit)) (now (kept .exit))) (now (out .exit))
+        ≡ resolveBytes cache (lent (now (stamps .entry)) (now (keys .entry)) (now (kept .entry)))
         snapshot (now (area .entry)) (now (subject .entry)) (now (out .entry)) ⌝ }
 {
-    if copies_full(heads.len(), kept.len(), area.len(), out.len()) {
+    if copies_full(stamps.len(), kept.len(), area.len(), out.len()) {
         return BytesResolved {
             cache,
             answer: BytesAnswer::CopyFull,
@@ -500,7 +500,7 @@ pub fn resolve_bytes(
     let mut out_words = [0u32; COPY_BYTES / 4];
     told(resolve_copies(
         cache,
-        heads,
+        stamps,
         keys,
         kept,
         snapshot,

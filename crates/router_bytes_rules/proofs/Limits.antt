@@ -25,10 +25,10 @@ module _ (n m : ℕ) (nodes targets subject out : List ℕ) where
   match-99 h = rw (lt-ltb copyBytes (length nodes + length targets + length out) (omega arith))
 
 module _ (c : ResolveCache) (a : Area) (s : Snapshot) (area subject out : List ℕ) where
-  pub resolve-taken : length (a .heads) + length (a .kept) + length area + length out ≤ 65536 → resolveBytes c a s area subject out ≡ inBytes (resolve c (inNumbers a) s (wordsIn area) subject (wordsIn out)) a out
+  pub resolve-taken : length (a .stamps) + length (a .kept) + length area + length out ≤ 65536 → resolveBytes c a s area subject out ≡ inBytes (resolve c (inNumbers a) s (wordsIn area) subject (wordsIn out)) a out
   unfolding resolveBytes
-  resolve-taken h = rw (le-ltb copyBytes (length (a .heads) + length (a .kept) + length area + length out) (omega arith))
+  resolve-taken h = rw (le-ltb copyBytes (length (a .stamps) + length (a .kept) + length area + length out) (omega arith))
 
-  pub resolve-99 : 65536 < length (a .heads) + length (a .kept) + length area + length out → resolveBytes c a s area subject out ≡ unchanged c a subject out (answer 99 [])
+  pub resolve-99 : 65536 < length (a .stamps) + length (a .kept) + length area + length out → resolveBytes c a s area subject out ≡ unchanged c a subject out (answer 99 [])
   unfolding resolveBytes
-  resolve-99 h = rw (lt-ltb copyBytes (length (a .heads) + length (a .kept) + length area + length out) (omega arith))
+  resolve-99 h = rw (lt-ltb copyBytes (length (a .stamps) + length (a .kept) + length area + length out) (omega arith))

@@ -1,4 +1,4 @@
--- 01's "areas as bytes, lowest byte first", as rows: a word, a number of `heads`, and that only whole ones count.
+-- 01's "areas as bytes, lowest byte first", as rows: a word, a number of `stamps`, and that only whole ones count.
 use mathlib.Core.Path.{_≡_, refl}
 use mathlib.Core.List.{[], _∷_}
 use Rattle.router_bytes_rules.specs.Bytes.{tabulate, numbersIn, bytesOf, wordsIn, longsIn}

@@ -41,7 +41,7 @@ abbrev pub bytesOf : ℕ → List ℕ → List ℕ
 bytesOf width [] = []
 bytesOf width (n ∷ ns) = spelling width n ++ bytesOf width ns
 
--- a word takes four bytes, a number of `heads` eight
+-- a word takes four bytes, a number of `stamps` eight
 abbrev pub wordsIn : List ℕ → List ℕ
 wordsIn bytes = numbersIn 4 bytes
 
@@ -60,7 +60,7 @@ matchBytes n m nodes targets subject out =
 
 -- the areas of a cache, from their bytes
 abbrev pub inNumbers : Area → Area
-inNumbers a = record { heads = longsIn (a .heads); keys = a .keys; kept = wordsIn (a .kept) }
+inNumbers a = record { stamps = longsIn (a .stamps); keys = a .keys; kept = wordsIn (a .kept) }
 
 -- what a resolve on the numbers of areas leaves in their bytes: an accepted one writes the numbers over them
 abbrev pub inBytes : Resolved → Area → List ℕ → Resolved
@@ -68,16 +68,16 @@ inBytes r a out = record {
   says = r .says;
   cache = r .cache;
   area = record {
-    heads = afterAnswer (r .says) (over (bytesOf 8 (r .area .heads)) (a .heads)) (a .heads);
+    stamps = afterAnswer (r .says) (over (bytesOf 8 (r .area .stamps)) (a .stamps)) (a .stamps);
     keys = afterAnswer (r .says) (r .area .keys) (a .keys);
     kept = afterAnswer (r .says) (over (bytesOf 4 (r .area .kept)) (a .kept)) (a .kept);
   };
   out = afterAnswer (r .says) (over (bytesOf 4 (r .out)) out) out;
 }
 
--- the resolve on bytes: 99 if heads, kept targets, area and output are together more than the copies hold
+-- the resolve on bytes: 99 if stamps, kept targets, area and output are together more than the copies hold
 unfoldable pub resolveBytes : ResolveCache → Area → Snapshot → List ℕ → List ℕ → List ℕ → Resolved
 resolveBytes c a s area subject out =
-    pick (ltb copyBytes (length (a .heads) + length (a .kept) + length area + length out))
+    pick (ltb copyBytes (length (a .stamps) + length (a .kept) + length area + length out))
     (unchanged c a subject out (answer 99 []))
     (inBytes (resolve c (inNumbers a) s (wordsIn area) subject (wordsIn out)) a out)

@@ -102,18 +102,18 @@ pub extern "C" fn router_snapshot_match(
     router_words::to_c_snapshot_match(standing.match_into(area, subject, out))
 }
 
-// A fresh cache of so many slots in the lent areas, three numbers, 256 bytes and 16 targets a slot, or why not.
+// A fresh cache of so many slots in the lent areas, a stamp, 260 bytes and 16 targets a slot, or why not.
 #[no_mangle]
 pub extern "C" fn router_cache_new(
     capacity: usize,
-    heads: &[u64],
+    stamps: &[u64],
     keys: &[u8],
     kept: &[u32],
 ) -> CMadeCache
     ensures { λ r. ⌜
-        SaysMadeCache r (withCapacity capacity (lent (now (heads .entry)) (now (keys .entry)) (now (kept .entry)))) ⌝ }
+        SaysMadeCache r (withCapacity capacity (lent (now (stamps .entry)) (now (keys .entry)) (now (kept .entry)))) ⌝ }
 {
-    router_words::to_c_made_cache(ResolveCache::with_capacity(capacity, heads, keys, kept))
+    router_words::to_c_made_cache(ResolveCache::with_capacity(capacity, stamps, keys, kept))
 }
 
 // The cache emptied; generation and walks remain.
@@ -130,7 +130,7 @@ pub extern "C" fn router_cache_clear(cache: CCache) -> CCache
 #[no_mangle]
 pub extern "C" fn router_resolve(
     cache: CCache,
-    heads: &mut [u64],
+    stamps: &mut [u64],
     keys: &mut [u8],
     kept: &mut [u32],
     snapshot: CSnapshot,
@@ -139,13 +139,13 @@ pub extern "C" fn router_resolve(
     out: &mut [u32],
 ) -> CResolved
     ensures { λ r. ⌜
-        Resolves r (lent (now (heads .exit)) (now (keys .exit)) (now (kept .exit))) (now (out .exit))
-        (resolve (cacheOf cache) (lent (now (heads .entry)) (now (keys .entry)) (now (kept .entry)))
+        Resolves r (lent (now (stamps .exit)) (now (keys .exit)) (now (kept .exit))) (now (out .exit))
+        (resolve (cacheOf cache) (lent (now (stamps .entry)) (now (keys .entry)) (now (kept .entry)))
         (snapshotOf snapshot) (now (area .entry)) (now (subject .entry)) (now (out .entry))) ⌝ }
 {
     let own = router_words::from_c_cache(cache);
     let standing = router_words::from_c_snapshot(snapshot);
-    router_words::to_c_resolved(resolve(own, heads, keys, kept, standing, area, subject, out))
+    router_words::to_c_resolved(resolve(own, stamps, keys, kept, standing, area, subject, out))
 }
 
 // A resolve on bytes: what the resolve on the copies tells, or 99; then the cache.
@@ -163,12 +163,12 @@ fn to_c_bytes_resolved(r: BytesResolved) -> CResolved
 }
 
 // The resolve on areas of bytes, lowest byte of a number first; whole numbers count.
-// Eight bytes are a number of `heads`, four a word of the others.
-// 99 if heads, kept, area and out are together more than 65,536 bytes.
+// Eight bytes are a number of `stamps`, four a word of the others.
+// 99 if stamps, kept, area and out are together more than 65,536 bytes.
 #[no_mangle]
 pub extern "C" fn router_resolve_bytes(
     cache: CCache,
-    heads: &mut [u8],
+    stamps: &mut [u8],
     keys: &mut [u8],
     kept: &mut [u8],
     snapshot: CSnapshot,
@@ -177,13 +177,13 @@ pub extern "C" fn router_resolve_bytes(
     out: &mut [u8],
 ) -> CResolved
     ensures { λ r. ⌜
-        Resolves r (lent (now (heads .exit)) (now (keys .exit)) (now (kept .exit))) (now (out .exit))
-        (resolveBytes (cacheOf cache) (lent (now (heads .entry)) (now (keys .entry)) (now (kept .entry)))
+        Resolves r (lent (now (stamps .exit)) (now (keys .exit)) (now (kept .exit))) (now (out .exit))
+        (resolveBytes (cacheOf cache) (lent (now (stamps .entry)) (now (keys .entry)) (now (kept .entry)))
         (snapshotOf snapshot) (now (area .entry)) (now (subject .entry)) (now (out .entry))) ⌝ }
 {
     let own = router_words::from_c_cache(cache);
     let standing = router_words::from_c_snapshot(snapshot);
-    let told = router_bytes::resolve_bytes(own, heads, keys, kept, standing, area, subject, out);
+    let told = router_bytes::resolve_bytes(own, stamps, keys, kept, standing, area, subject, out);
     to_c_bytes_resolved(told)
 }
 
@@ -215,7 +215,7 @@ pub extern "C" fn router_resolve_single_home(
 #[no_mangle]
 pub extern "C" fn router_resolve_single_home_cached(
     cache: CCache,
-    heads: &mut [u64],
+    stamps: &mut [u64],
     keys: &mut [u8],
     kept: &mut [u32],
     snapshot: CSnapshot,
@@ -224,15 +224,15 @@ pub extern "C" fn router_resolve_single_home_cached(
     out: &mut [u32],
 ) -> CResolved
     ensures { λ r. ⌜
-        JudgesCached r (lent (now (heads .exit)) (now (keys .exit)) (now (kept .exit))) (now (out .exit))
-        (resolveSingleHomeCached (cacheOf cache) (lent (now (heads .entry)) (now (keys .entry)) (now (kept .entry)))
+        JudgesCached r (lent (now (stamps .exit)) (now (keys .exit)) (now (kept .exit))) (now (out .exit))
+        (resolveSingleHomeCached (cacheOf cache) (lent (now (stamps .entry)) (now (keys .entry)) (now (kept .entry)))
         (snapshotOf snapshot) (now (area .entry)) (now (subject .entry)) (now (out .entry))) ⌝ }
 {
     let own = router_words::from_c_cache(cache);
     let standing = router_words::from_c_snapshot(snapshot);
     router_words::to_c_cached_resolution(binding::resolve_single_home_cached(
         own,
-        heads,
+        stamps,
         keys,
         kept,
         standing,

@@ -78,8 +78,11 @@ pub struct SnapshotBytes<'a> {
 #[derive(Debug)]
 pub struct ResolveCacheBytes<'a> {
     pub state: CacheState,
-    pub heads: &'a mut [u8],
+    /// Eight bytes a slot.
+    pub stamps: &'a mut [u8],
+    /// 260 bytes a slot, as those of a [`crate::ResolveCache`].
     pub keys: &'a mut [u8],
+    /// 64 bytes a slot, four for each target.
     pub kept: &'a mut [u8],
 }
 
@@ -87,13 +90,13 @@ impl<'a> ResolveCacheBytes<'a> {
     /// A fresh cache of so many slots, 0 counting as 1. Its areas are measured when it resolves.
     pub fn with_capacity(
         capacity: usize,
-        heads: &'a mut [u8],
+        stamps: &'a mut [u8],
         keys: &'a mut [u8],
         kept: &'a mut [u8],
     ) -> ResolveCacheBytes<'a> {
         ResolveCacheBytes {
             state: CacheState::fresh(capacity),
-            heads,
+            stamps,
             keys,
             kept,
         }
@@ -113,7 +116,7 @@ impl<'a> ResolveCacheBytes<'a> {
     ) -> Result<(Targets<'r>, bool), Refusal> {
         let resolved = raw::resolve_bytes(
             self.state,
-            self.heads,
+            self.stamps,
             self.keys,
             self.kept,
             snapshot.state,

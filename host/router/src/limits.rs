@@ -27,9 +27,9 @@ pub const MAX_FRONTIER: usize = 1024;
 /// The most subjects that a whole move may have. An output of so many is never short for it.
 pub const MAX_MOVE: usize = 64;
 
-/// The numbers, the bytes of a subject and the targets that a slot of a cache takes.
-pub const SLOT_NUMBERS: usize = 3;
-pub const SLOT_BYTES: usize = 256;
+/// What a slot of a cache takes beside its stamp: a byte in each of so many lists, the bytes of its key, and the words of its targets.
+pub const SLOT_LISTS: usize = 4;
+pub const KEY_BYTES: usize = 256;
 pub const SLOT_TARGETS: usize = 16;
 
 /// The most slots that a cache may have, and those it has where none are asked for.
@@ -54,14 +54,14 @@ pub const fn table_words(nodes: usize, targets: usize) -> usize {
     node_words(nodes).saturating_add(targets)
 }
 
-/// The numbers in the heads of so many slots.
-pub const fn head_numbers(slots: usize) -> usize {
-    slots.saturating_mul(SLOT_NUMBERS)
+/// The stamps of so many slots, one each.
+pub const fn stamp_numbers(slots: usize) -> usize {
+    slots
 }
 
-/// The bytes of the keys of so many slots.
+/// The bytes of the keys of so many slots, and of the lists before them.
 pub const fn key_bytes(slots: usize) -> usize {
-    slots.saturating_mul(SLOT_BYTES)
+    slots.saturating_mul(SLOT_LISTS + KEY_BYTES)
 }
 
 /// The words of the targets that so many slots keep.
@@ -69,9 +69,9 @@ pub const fn kept_words(slots: usize) -> usize {
     slots.saturating_mul(SLOT_TARGETS)
 }
 
-/// The bytes of a cache of so many slots in all: heads of 8 bytes a number, keys, and 4 bytes a target.
+/// The bytes of a cache of so many slots in all: stamps of 8 bytes, keys, and 4 bytes a target.
 pub const fn cache_bytes(slots: usize) -> usize {
-    slots.saturating_mul(8 * SLOT_NUMBERS + SLOT_BYTES + 4 * SLOT_TARGETS)
+    slots.saturating_mul(8 + SLOT_LISTS + KEY_BYTES + 4 * SLOT_TARGETS)
 }
 
 #[cfg(test)]
@@ -82,9 +82,12 @@ mod tests {
     fn sizes() {
         assert_eq!((MAX_NODES, MADE_TEXT), (65537, 6 + 5));
         assert_eq!(table_words(5, 5), 85);
-        assert_eq!((head_numbers(2), key_bytes(2), kept_words(2)), (6, 512, 32));
-        assert_eq!(cache_bytes(1), 344);
-        assert_eq!(cache_bytes(MAX_CAPACITY), 352_256);
+        assert_eq!(
+            (stamp_numbers(2), key_bytes(2), kept_words(2)),
+            (2, 520, 32)
+        );
+        assert_eq!(cache_bytes(1), 332);
+        assert_eq!(cache_bytes(MAX_CAPACITY), 339_968);
         assert_eq!(table_words(usize::MAX, 1), usize::MAX);
     }
 }

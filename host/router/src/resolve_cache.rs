@@ -1,15 +1,18 @@
 //! The cache of resolved subjects, over lent areas.
 use crate::answers::{cache_after, part, resolved_values, size, values};
 use crate::limits::DEFAULT_CAPACITY;
-use crate::raw::{self, CacheState, Resolved};
+use crate::raw::{self, CacheState, Resolve};
 use crate::{Refusal, Snapshot};
 
 /// A cache that keeps the targets of the latest subjects, for the generation of one snapshot: the original's `ResolveCache`.
 #[derive(Debug)]
 pub struct ResolveCache<'a> {
     state: CacheState,
-    heads: &'a mut [u64],
+    /// A number a slot: the tick of its last use.
+    stamps: &'a mut [u64],
+    /// Four lists of a byte a slot (the subject's length less one, the number of targets, its mark of two bytes), then 256 bytes a slot: the subject.
     keys: &'a mut [u8],
+    /// 16 words a slot: the targets.
     kept: &'a mut [u32],
 }
 
@@ -39,22 +42,22 @@ impl<'a> ResolveCache<'a> {
 
     /// A fresh cache of 1,024 slots; or 17.
     pub fn new(
-        heads: &'a mut [u64],
+        stamps: &'a mut [u64],
         keys: &'a mut [u8],
         kept: &'a mut [u32],
     ) -> Result<ResolveCache<'a>, Refusal> {
-        ResolveCache::with_capacity(DEFAULT_CAPACITY, heads, keys, kept)
+        ResolveCache::with_capacity(DEFAULT_CAPACITY, stamps, keys, kept)
     }
 
     /// A fresh cache of so many slots, 0 counting as 1; or 17.
-    /// [`crate::head_numbers`], [`crate::key_bytes`] and [`crate::kept_words`] say how long the areas must be.
+    /// [`crate::stamp_numbers`], [`crate::key_bytes`] and [`crate::kept_words`] say how long the areas must be.
     pub fn with_capacity(
         capacity: usize,
-        heads: &'a mut [u64],
+        stamps: &'a mut [u64],
         keys: &'a mut [u8],
         kept: &'a mut [u32],
     ) -> Result<ResolveCache<'a>, Refusal> {
-        let made = raw::cache_new(capacity, heads, keys, kept);
+        let made = raw::cache_new(capacity, stamps, keys, kept);
         values(made.number, [0; 3])?;
         let state = CacheState {
             capacity: size(made.capacity),
@@ -63,19 +66,19 @@ impl<'a> ResolveCache<'a> {
             tick: made.tick,
             walks: made.walks,
         };
-        Ok(ResolveCache::from_parts(state, heads, keys, kept))
+        Ok(ResolveCache::from_parts(state, stamps, keys, kept))
     }
 
-    /// A cache of any state and areas. Every call on it ends with a result or a refusal.
+    /// A cache of any state and areas. Every call on it ends with a result or a refusal. Where the slots lie in `keys` follows from the state's capacity.
     pub fn from_parts(
         state: CacheState,
-        heads: &'a mut [u64],
+        stamps: &'a mut [u64],
         keys: &'a mut [u8],
         kept: &'a mut [u32],
     ) -> ResolveCache<'a> {
         ResolveCache {
             state,
-            heads,
+            stamps,
             keys,
             kept,
         }
@@ -123,11 +126,7 @@ impl<'a> ResolveCache<'a> {
         subject: &[u8],
         out: &'r mut [u32],
     ) -> Result<Listed<'r>, Refusal> {
-        let (standing, area) = snapshot.parts();
-        let resolved = raw::resolve(
-            self.state, self.heads, self.keys, self.kept, standing, area, subject, out,
-        );
-        let [lies, start, length] = self.settle(&resolved)?;
+        let [lies, start, length] = self.call(raw::resolve, snapshot, subject, out)?;
         Ok(match lies {
             0 => Listed {
                 list: part(self.kept, start, length),
@@ -147,16 +146,30 @@ impl<'a> ResolveCache<'a> {
         subject: &[u8],
         out: &mut [u32],
     ) -> Result<[u64; 2], Refusal> {
-        let (standing, area) = snapshot.parts();
-        let resolved = raw::resolve_single_home_cached(
-            self.state, self.heads, self.keys, self.kept, standing, area, subject, out,
-        );
-        self.settle(&resolved).map(|[kind, value, _]| [kind, value])
+        let verdict = self.call(raw::resolve_single_home_cached, snapshot, subject, out);
+        verdict.map(|[kind, value, _]| [kind, value])
     }
 
     /// Takes over the state that a resolve leaves; its values, or the refusal.
-    fn settle(&mut self, resolved: &Resolved) -> Result<[u64; 3], Refusal> {
-        self.state = cache_after(resolved);
-        resolved_values(resolved)
+    fn call(
+        &mut self,
+        resolve: Resolve,
+        snapshot: &Snapshot<'_>,
+        subject: &[u8],
+        out: &mut [u32],
+    ) -> Result<[u64; 3], Refusal> {
+        let (standing, area) = snapshot.parts();
+        let resolved = resolve(
+            self.state,
+            self.stamps,
+            self.keys,
+            self.kept,
+            standing,
+            area,
+            subject,
+            out,
+        );
+        self.state = cache_after(&resolved);
+        resolved_values(&resolved)
     }
 }

@@ -17,8 +17,8 @@ fn areas_of_bytes() {
     let (state, words) = snapshot.parts();
     let area = bytes_of(words);
     let snapshot = SnapshotBytes { state, area: &area };
-    let (mut heads, mut keys, mut kept) = ([0; 48], [0; 512], [0; 128]);
-    let mut cache = ResolveCacheBytes::with_capacity(2, &mut heads, &mut keys, &mut kept);
+    let (mut stamps, mut keys, mut kept) = ([0; 16], [0; 520], [0; 128]);
+    let mut cache = ResolveCacheBytes::with_capacity(2, &mut stamps, &mut keys, &mut kept);
     for hit in [false, true] {
         let mut out = [0; 20];
         let (targets, found) = cache

@@ -4,14 +4,14 @@ mod common;
 use common::{Owned, ROW};
 use router::raw::{self, CacheState, SnapshotState};
 use router::{
-    head_numbers, kept_words, key_bytes, resolve_single_home, resolve_single_home_cached,
-    single_home, table_words, Refusal, Resolution, ResolveCache, Snapshot, Table, TextRefusal,
+    kept_words, key_bytes, resolve_single_home, resolve_single_home_cached, single_home,
+    stamp_numbers, table_words, Refusal, Resolution, ResolveCache, Snapshot, Table, TextRefusal,
     DEFAULT_CAPACITY,
 };
 
 /// The areas of a cache of so many slots.
 struct Areas {
-    heads: Vec<u64>,
+    stamps: Vec<u64>,
     keys: Vec<u8>,
     kept: Vec<u32>,
 }
@@ -19,14 +19,18 @@ struct Areas {
 impl Areas {
     fn of(slots: usize) -> Areas {
         Areas {
-            heads: vec![0; head_numbers(slots)],
+            stamps: vec![0; stamp_numbers(slots)],
             keys: vec![0; key_bytes(slots)],
             kept: vec![0; kept_words(slots)],
         }
     }
 
     fn cache(&mut self, capacity: usize) -> Result<ResolveCache<'_>, Refusal> {
-        ResolveCache::with_capacity(capacity, &mut self.heads, &mut self.keys, &mut self.kept)
+        ResolveCache::with_capacity(capacity, &mut self.stamps, &mut self.keys, &mut self.kept)
+    }
+
+    fn with(&mut self, state: CacheState) -> ResolveCache<'_> {
+        ResolveCache::from_parts(state, &mut self.stamps, &mut self.keys, &mut self.kept)
     }
 }
 
@@ -75,7 +79,7 @@ fn the_spare_cabinet() {
         next: made.next,
     };
     let mut areas = Areas::of(1);
-    let made = raw::cache_new(1, &areas.heads, &areas.keys, &areas.kept);
+    let made = raw::cache_new(1, &areas.stamps, &areas.keys, &areas.kept);
     assert_eq!((made.number, made.capacity), (0, 1));
     let fresh = CacheState {
         capacity: 1,
@@ -84,7 +88,7 @@ fn the_spare_cabinet() {
     let mut verdict = |cache: CacheState, snapshot: SnapshotState, area: &[u32]| {
         raw::resolve_single_home_cached(
             cache,
-            &mut areas.heads,
+            &mut areas.stamps,
             &mut areas.keys,
             &mut areas.kept,
             snapshot,
@@ -198,13 +202,37 @@ fn kept_lists_and_walked_lists() {
     assert_eq!(cache.walk_count(), 1);
 }
 
+/// What a kept list leaves in the areas of two slots. A slot with another mark is not found, though its bytes are the subject's.
+#[test]
+fn slots_and_their_marks() {
+    let row = Owned::of(&ROW);
+    let (mut area, mut areas) = ([0; 100], Areas::of(2));
+    let snapshot = Snapshot::new(&row.table(), &mut area).expect("it fits");
+    let resolve = |cache: &mut ResolveCache<'_>| {
+        let mut out = [0; 5];
+        let listed = cache.resolve(&snapshot, b"a.b", &mut out);
+        (listed.map(|listed| listed.hit), cache.state())
+    };
+    let (hit, state) = resolve(&mut areas.cache(2).expect("it fits"));
+    assert_eq!((hit, state.used), (Ok(false), 1));
+    assert_eq!(areas.stamps, [1, 0]);
+    assert_eq!(areas.keys[..8], [2, 0, 5, 0, 0x49, 0, 0xfc, 0]);
+    assert_eq!(areas.keys[8..12], *b"a.b\0");
+    assert_eq!(areas.kept[..6], [2, 4, 1, 5, 3, 0]);
+    areas.keys[4] ^= 1;
+    let (hit, state) = resolve(&mut areas.with(state));
+    assert_eq!((hit, state.used, state.walks), (Ok(false), 2, 2));
+    let (hit, _) = resolve(&mut areas.with(state));
+    assert_eq!((hit, areas.stamps), (Ok(true), vec![1, 3]));
+}
+
 #[test]
 fn caches_that_do_not_fit() {
     let short = Err(Refusal::CacheShort);
     assert_eq!(Areas::of(2).cache(3).map(|_| ()), short);
     assert_eq!(Areas::of(1025).cache(1025).map(|_| ()), short);
     let mut areas = Areas::of(DEFAULT_CAPACITY);
-    let cache = ResolveCache::new(&mut areas.heads, &mut areas.keys, &mut areas.kept);
+    let cache = ResolveCache::new(&mut areas.stamps, &mut areas.keys, &mut areas.kept);
     assert_eq!(cache.map(|cache| cache.capacity()), Ok(DEFAULT_CAPACITY));
 }
 
@@ -224,8 +252,7 @@ fn states_made_by_hand() {
         used: 2,
         ..CacheState::default()
     };
-    let (heads, keys, kept) = (&mut areas.heads, &mut areas.keys, &mut areas.kept);
-    let mut cache = ResolveCache::from_parts(state, heads, keys, kept);
+    let mut cache = areas.with(state);
     assert_eq!(
         cache.resolve(&snapshot, b"a", &mut []),
         Err(Refusal::BadSlot)

@@ -28,7 +28,7 @@ returns c =
     let k = c .before .before .before .before .before .before .before .before .before .before .before .before in
     let a = k .before .before .before .before .before .before .before .before .before .before .before .args in
     let l = k .resolve .last in
-    resolve-judged (a .cache) (lent (a .heads .now) (a .keys .now) (a .kept .now)) (a .snapshot) (a .area .now) (a .subject .now) (a .out .now)
+    resolve-judged (a .cache) (lent (a .stamps .now) (a .keys .now) (a .kept .now)) (a .snapshot) (a .area .now) (a .subject .now) (a .out .now)
     (k .resolve .result) (lent (l .1 .0) (l .1 .1 .0) (l .1 .1 .1 .0)) (l .1 .1 .1 .1 .1 .1 .1 .0) (c .judge .result) (k .resolve .ensures) (c .judge .ensures)
 
 pub resolve-single-home-cached-spec : {M : Type 1} → statement M

@@ -17,12 +17,12 @@ use Rattle.resolve_cache.proofs.decide.Tie as tie
 
 -- 17 does not apply
 roomy : (k : tie.Else1) → let a = k .before .before .before .before .before .before .before .before .before .before .before .args in
-    short (a .cache .capacity) (lent (a .heads .now) (a .keys .now) (a .kept .now)) ≡ false
+    short (a .cache .capacity) (lent (a .stamps .now) (a .keys .now) (a .kept .now)) ≡ false
 roomy k = sym (k .before .is-short .ensures) ∙ k .if1 .left
 
 -- nor does 18
 good : (k : tie.Else2) → let x = k .before .before in let a = x .before .before .before .before .before .before .before .before .before .before .before .args in
-    bad (a .cache) (lent (a .heads .now) (a .keys .now) (a .kept .now)) ≡ false
+    bad (a .cache) (lent (a .stamps .now) (a .keys .now) (a .kept .now)) ≡ false
 good k = sym (k .before .is-bad .ensures) ∙ k .if2 .left
 
 -- the cache on the standing table's generation
@@ -39,7 +39,7 @@ returns c =
     let a = k .before .before .before .before .before .before .before .args in
     let t = k .parse-literal in
     let e = c .before .enum-told2 .given in
-    text-refused (a .cache) (lent (a .heads .now) (a .keys .now) (a .kept .now)) (a .snapshot) (a .area .now) (a .subject .now) (a .out .now)
+    text-refused (a .cache) (lent (a .stamps .now) (a .keys .now) (a .kept .now)) (a .snapshot) (a .area .now) (a .subject .now) (a .out .now)
     (t .result) (t .ensures) (e .0 .0) (e .1) (c .refused .result) (c .refused .ensures)
 
 returns-2 : tie.Need-returns-2
@@ -49,13 +49,13 @@ returns-2 c =
     let a = k .before .before .before .before .before .before .before .args in
     let t = k .parse-literal in
     let e = x .enum-told .given in
-    refused-short (a .cache) (lent (a .heads .now) (a .keys .now) (a .kept .now)) (a .snapshot) (a .area .now) (a .subject .now) (a .out .now)
+    refused-short (a .cache) (lent (a .stamps .now) (a .keys .now) (a .kept .now)) (a .snapshot) (a .area .now) (a .subject .now) (a .out .now)
     (t .result) (t .ensures) (e .0 .0) (e .1) (sym (c .before .is-short .ensures) ∙ c .if1 .taken)
 
 is-bad-requires : tie.Need-is-bad-requires
 is-bad-requires c κs =
     let a = c .before .before .before .before .before .before .before .before .before .before .before .args in
-    short-wide (a .cache .capacity) (lent (a .heads .now) (a .keys .now) (a .kept .now)) (roomy c)
+    short-wide (a .cache .capacity) (lent (a .stamps .now) (a .keys .now) (a .kept .now)) (roomy c)
 
 returns-3 : tie.Need-returns-3
 returns-3 c =
@@ -65,7 +65,7 @@ returns-3 c =
     let a = k .before .before .before .before .before .before .before .args in
     let t = k .parse-literal in
     let e = x .enum-told .given in
-    refused-bad (a .cache) (lent (a .heads .now) (a .keys .now) (a .kept .now)) (a .snapshot) (a .area .now) (a .subject .now) (a .out .now)
+    refused-bad (a .cache) (lent (a .stamps .now) (a .keys .now) (a .kept .now)) (a .snapshot) (a .area .now) (a .subject .now) (a .out .now)
     (t .result) (t .ensures) (e .0 .0) (e .1) (roomy enough) (sym (c .before .is-bad .ensures) ∙ c .if2 .taken)
 
 returns-4 : tie.Need-returns-4
@@ -78,7 +78,7 @@ returns-4 c =
     let t = k .parse-literal in
     let e = x .enum-told .given in
     let s = c .before .stands-in in
-    refused-damaged (a .cache) (lent (a .heads .now) (a .keys .now) (a .kept .now)) (a .snapshot) (a .area .now) (a .subject .now) (a .out .now)
+    refused-damaged (a .cache) (lent (a .stamps .now) (a .keys .now) (a .kept .now)) (a .snapshot) (a .area .now) (a .subject .now) (a .out .now)
     (t .result) (t .ensures) (e .0 .0) (e .1) (roomy enough) (good sound) (sym (s .ensures) ∙ not-true (s .result) (c .if3 .taken))
 
 look-up-requires : tie.Need-look-up-requires
@@ -86,7 +86,7 @@ look-up-requires c κs =
     let sound = c .before .before .before .before in
     let enough = sound .before .before in
     let a = enough .before .before .before .before .before .before .before .before .before .before .before .args in
-    let area = lent (a .heads .now) (a .keys .now) (a .kept .now) in
+    let area = lent (a .stamps .now) (a .keys .now) (a .kept .now) in
     let r = good-ready (a .cache) area (good sound) (short-wide (a .cache .capacity) area (roomy enough)) in
     let n : c .adopt .result .used ≤ a .cache .used = subst (λ d. d .used ≤ a .cache .used) (sym (on c)) (adopt-used (a .snapshot .generation) (a .cache) .0) in
     ((omega arith, omega arith, omega arith), good-small (a .cache) area (good sound) (c .adopt .result .used) n)
@@ -102,8 +102,9 @@ returns-5 c =
     let t = k .parse-literal in
     let e = x .enum-told .given in
     let s = stands .before .stands-in in
-    let area = lent (a .heads .now) (a .keys .now) (a .kept .now) in
-    let same = ap (λ d. seen (findFrom (a .heads .now) (a .keys .now) (a .subject .now) 0 (d .used)) (a .heads .now) (length (a .out .now))) (on (c .before)) in
+    let area = lent (a .stamps .now) (a .keys .now) (a .kept .now) in
+    let m = a .cache .capacity in
+    let same = ap (λ d. seen m (a .keys .now) (findFrom m (a .keys .now) (a .subject .now) 0 (d .used)) (length (a .out .now))) (on (c .before)) in
     subst (Decides (a .cache) area (a .snapshot) (a .area .now) (a .subject .now) (a .out .now)) (sym (c .look-up .ensures ∙ same))
     (looked (a .cache) area (a .snapshot) (a .area .now) (a .subject .now) (a .out .now) (t .result) (t .ensures) (e .0 .0) (e .1)
     (roomy enough) (good sound) (sym (s .ensures) ∙ not-false (s .result) (stands .if3 .left)))

@@ -6,12 +6,12 @@ use Rattle.resolve_cache.proofs.keep.Tie as tie
 returns : tie.Need-returns
 returns c =
     let words = c .before .before in
-    let bytes = words .before .before .before .before in
-    let head = bytes .before .before .before .before in
-    rw (head .put-head .ensures, bytes .put-bytes .ensures, words .put-words .ensures)
+    let key = words .before .before .before .before in
+    let stamp = key .before .before .before .before in
+    rw (stamp .touch .ensures, key .put-key .ensures, words .put-words .ensures)
 
 pub keep-spec : {M : Type 1} → statement M
 keep-spec =
     tie.close
-    (tie.spec (λ c κs. search needs) (λ c. search needs) (λ c κs. search needs) (λ c. search needs)
-    (λ c κs. search needs) (λ c. search needs) (λ c. search needs) (λ c. search needs) returns)
+    (tie.spec (λ c κs. search needs) (λ c κs. search needs) (λ c. search needs) (λ c κs. search needs)
+    (λ c. search needs) (λ c. search needs) (λ c. search needs) returns)

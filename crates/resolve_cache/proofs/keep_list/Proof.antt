@@ -19,7 +19,7 @@ returns c =
     let k = c .before .before in
     let a = k .before .before .before .before .before .before .args in
     let q = k .qualifies in
-    unkept (a .cache) (lent (a .heads .now) (a .keys .now) (a .kept .now)) (a .subject .now) (a .list .now)
+    unkept (a .cache) (lent (a .stamps .now) (a .keys .now) (a .kept .now)) (a .subject .now) (a .list .now)
     (sym (q .ensures) ∙ not-true (q .result) (c .before .if1 .taken)) (c .walked .result) (c .walked .ensures)
 
 keep-requires : tie.Need-keep-requires
@@ -28,7 +28,7 @@ keep-requires c κs =
     let x = placed .before .before .before .before in
     let a = x .before .before .before .before .before .before .before .args in
     let sizes = kept-sizes (a .subject .now) (a .list .now) (fits x) in
-    (omega arith, omega arith, omega arith, omega arith, omega arith, omega arith)
+    (x .before .before .before .before .before .before .before .pre .0 .wide, (omega arith, omega arith, omega arith, omega arith))
 
 returns-2 : tie.Need-returns-2
 returns-2 c =
@@ -40,7 +40,7 @@ returns-2 c =
     let p = placed .place in
     let t = stamped .next-tick in
     let k = kept .keep in
-    list-kept (a .cache) (lent (a .heads .now) (a .keys .now) (a .kept .now)) (a .subject .now) (a .list .now) (fits x)
+    list-kept (a .cache) (lent (a .stamps .now) (a .keys .now) (a .kept .now)) (a .subject .now) (a .list .now) (fits x)
     (p .result) (p .ensures .0) (t .result) (t .ensures)
     (lent (k .last .0) (k .last .1 .0) (k .last .1 .1 .0)) (k .ensures) (c .grown .result) (c .grown .ensures)
 

@@ -17,39 +17,38 @@ use Rattle.resolve_cache.proofs.oldest.Statement.{statement}
 use Rattle.resolve_cache.proofs.oldest.Tie as tie
 
 abbrev Rest : List ℕ → ℕ → ℕ → ℕ → Type 0
-Rest heads n best i = oldestFrom heads best i (n - i) ≡ oldestFrom heads 0 1 (n - 1)
+Rest stamps n best i = oldestFrom stamps best i (n - i) ≡ oldestFrom stamps 0 1 (n - 1)
 
 abbrev Inv-loop : tie.InvT-loop
-Inv-loop heads n best₀ i₀ best i = (1 ≤ i) × (i ≤ n) × (best < n) × (n ≤ 1024) × (3 * n ≤ length heads) × Rest heads n best i
+Inv-loop stamps n best₀ i₀ best i = (1 ≤ i) × (i ≤ n) × (best < n) × (n ≤ length stamps) × Rest stamps n best i
 
 abbrev μ-loop : tie.MeasureT-loop
-μ-loop heads n best₀ i₀ best i = n - i
+μ-loop stamps n best₀ i₀ best i = n - i
 
 loop-holds : tie.Need-loop-holds Inv-loop μ-loop
-loop-holds c = (omega arith, omega arith, omega arith, omega arith, omega arith, refl)
+loop-holds c = (omega arith, omega arith, omega arith, omega arith, refl)
 
 loop-again : tie.Need-loop-again Inv-loop μ-loop
 loop-again c =
     let k = c .before .before .before .before in
     let a = k .before .args in
     let l = k .loop in
-    let older = ltb (stampAt (a .heads .now) (l .i)) (stampAt (a .heads .now) (l .best)) in
-    let turn : c .if1 .best ≡ pick older (l .i) (l .best) → Rest (a .heads .now) (a .n) (c .if1 .best) (l .i + 1) =
-    λ q. oldest-turn (a .heads .now) (l .best) (l .i) (a .n) (c .if1 .best) (oldestFrom (a .heads .now) 0 1 (a .n - 1)) (omega arith) q (l .inv .5) in
+    let older = ltb (stampAt (a .stamps .now) (l .i)) (stampAt (a .stamps .now) (l .best)) in
+    let turn : c .if1 .best ≡ pick older (l .i) (l .best) → Rest (a .stamps .now) (a .n) (c .if1 .best) (l .i + 1) =
+    λ q. oldest-turn (a .stamps .now) (l .best) (l .i) (a .n) (c .if1 .best) (oldestFrom (a .stamps .now) 0 1 (a .n - 1)) (omega arith) q (l .inv .4) in
     ⊎-elim
-    (λ w. (omega arith, omega arith, omega arith, omega arith, omega arith, turn (w .1 ∙ rw (lt-ltb _ _ (w .0 .taken)))))
-    (λ w. (omega arith, omega arith, omega arith, omega arith, omega arith, turn (w .1 ∙ rw (le-ltb _ _ (w .0 .left)))))
+    (λ w. (omega arith, omega arith, omega arith, omega arith, turn (w .1 ∙ rw (lt-ltb _ _ (w .0 .taken)))))
+    (λ w. (omega arith, omega arith, omega arith, omega arith, turn (w .1 ∙ rw (le-ltb _ _ (w .0 .left)))))
     (c .if1 .came)
 
 returns : tie.Need-returns Inv-loop μ-loop
 returns c =
     let a = c .before .before .args in
     let l = c .before .loop in
-    oldest-end (a .heads .now) (l .i) (a .n) (omega arith) (l .best) (oldestFrom (a .heads .now) 0 1 (a .n - 1)) (l .inv .5)
+    oldest-end (l .i) (a .n) (omega arith) (a .stamps .now) (l .best) (oldestFrom (a .stamps .now) 0 1 (a .n - 1)) (l .inv .4)
 
 pub oldest-spec : {M : Type 1} → statement M
 oldest-spec =
     tie.close
     (tie.spec Inv-loop μ-loop loop-holds (λ c. search needs) (λ c. search needs) (λ c. search needs)
-    (λ c. search needs) (λ c. search needs) (λ c. search needs) (λ c. search needs) (λ c. search needs)
-    (λ c. search needs) (λ c. search needs) loop-again returns)
+    (λ c. search needs) (λ c. search needs) (λ c. search needs) loop-again returns)

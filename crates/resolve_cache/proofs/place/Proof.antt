@@ -17,7 +17,7 @@ returns-2 c =
     let s = c .before .before .before .before .before .before in
     let a = s .args in (
       rw (le-ltb (a .cache .used) (a .cache .capacity) (c .before .if1 .left)) (c .oldest .ensures),
-      omega (arith, c .oldest .ensures, oldest-below (a .heads .now) 0 1 (a .cache .used - 1) (a .cache .capacity) (s .pre .any) (omega arith)),
+      omega (arith, c .oldest .ensures, oldest-below (a .stamps .now) 0 1 (a .cache .used - 1) (a .cache .capacity) (s .pre .any) (omega arith)),
     )
 
 pub place-spec : {M : Type 1} → statement M

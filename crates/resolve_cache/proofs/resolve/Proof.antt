@@ -12,10 +12,10 @@ use Rattle.resolve_cache.proofs.resolve.Tie as tie
 -- what was decided
 told : (k : tie.After-decide) (d : Decision) → k .decide .result ≡ d
     → let a = k .before .before .before .before .before .before .before .before .before .before .before .args in
-    Decides (a .cache) (lent (a .heads .now) (a .keys .now) (a .kept .now)) (a .snapshot) (a .area .now) (a .subject .now) (a .out .now) d
+    Decides (a .cache) (lent (a .stamps .now) (a .keys .now) (a .kept .now)) (a .snapshot) (a .area .now) (a .subject .now) (a .out .now) d
 told k d q =
     let a = k .before .before .before .before .before .before .before .before .before .before .before .args in
-    subst (Decides (a .cache) (lent (a .heads .now) (a .keys .now) (a .kept .now)) (a .snapshot) (a .area .now) (a .subject .now) (a .out .now)) q (k .decide .ensures)
+    subst (Decides (a .cache) (lent (a .stamps .now) (a .keys .now) (a .kept .now)) (a .snapshot) (a .area .now) (a .subject .now) (a .out .now)) q (k .decide .ensures)
 
 show-requires : tie.Need-show-requires
 show-requires c κs =

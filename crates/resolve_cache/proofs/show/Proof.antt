@@ -1,9 +1,7 @@
 -- `resolve_cache::show` meets its contract. Assumes nothing.
-use Prim.Native.Nat.{_+_, _*_}
 use mathlib.Core.Path.{refl, _∙_, ap}
-use mathlib.Core.List.{[], _∷_}
+use lib.ListN.{set}
 use borrow.Author.Needs.{needs}
-use Rattle.sublist_tree.specs.Lists.{put}
 use Rattle.resolve_cache_rules.specs.Cache.{adopt, ticked, hit}
 use Rattle.resolve_cache.proofs.show.Statement.{statement}
 use Rattle.resolve_cache.proofs.show.Tie as tie
@@ -17,7 +15,7 @@ returns c =
     let e = on .adopt .ensures ∙ ap (λ g. adopt g (a .cache)) (on .before .generation .ensures) in (
       refl,
       c .hit .ensures ∙ ap hit e,
-      touched .touch .ensures ∙ ap (λ k. put (a .heads .now) (3 * a .slot + 2) (k .0 ∷ [])) (stamped .next-tick .ensures ∙ ap ticked e),
+      touched .touch .ensures ∙ ap (λ k. set (a .stamps .now) (a .slot) (k .0)) (stamped .next-tick .ensures ∙ ap ticked e),
     )
 
 pub show-spec : {M : Type 1} → statement M

@@ -16,6 +16,7 @@ use Rattle.sublist_snapshot.specs.Answers.{snapshotAnswer}
 use Rattle.sublist_snapshot.proofs.Fronts.{parsed-match}
 use Rattle.resolve_cache_rules.specs.Cache.{adopt, Resolved}
 use Rattle.resolve_cache_rules.specs.Answers.{lent}
+use Rattle.resolve_cache_rules.proofs.Faithful.{accepted-some}
 use Rattle.resolve_cache.specs.Deciding.{walking}
 use Rattle.resolve_cache.proofs.Keeping.{ready-current, Lists, walk-refused, walk-lists, kept-walk}
 use Rattle.resolve_cache.proofs.walk.Statement.{statement}
@@ -37,22 +38,22 @@ told k m q =
 refused : (k : tie.After-match-parsed) (m : SnapshotMatch) → k .match-parsed .result ≡ m → ((x : Answer) → snapshotAnswer m ≡ whenAccepted (snapshotAnswer m) x)
     → let a = k .before .before .before .before .before .before .before .before .before .before .args in
     _≡_ {A = Resolved}
-    (record { says = snapshotAnswer m; cache = a .cache; area = lent (a .heads .now) (a .keys .now) (a .kept .now); out = k .match-parsed .last .1 .1 .1 .0 })
-    (walking (a .cache) (lent (a .heads .now) (a .keys .now) (a .kept .now)) (a .snapshot) (a .area .now) (a .subject .now) (a .out .now))
+    (record { says = snapshotAnswer m; cache = a .cache; area = lent (a .stamps .now) (a .keys .now) (a .kept .now); out = k .match-parsed .last .1 .1 .1 .0 })
+    (walking (a .cache) (lent (a .stamps .now) (a .keys .now) (a .kept .now)) (a .snapshot) (a .area .now) (a .subject .now) (a .out .now))
 refused k m q r =
     let a = k .before .before .before .before .before .before .before .before .before .before .args in
-    walk-refused (a .cache) (lent (a .heads .now) (a .keys .now) (a .kept .now)) (a .snapshot) (a .area .now) (a .subject .now) (a .out .now)
+    walk-refused (a .cache) (lent (a .stamps .now) (a .keys .now) (a .kept .now)) (a .snapshot) (a .area .now) (a .subject .now) (a .out .now)
     (snapshotAnswer m) (k .match-parsed .last .1 .1 .1 .0) r (told k m q)
 
 -- a list
 listed : (x : tie.After-count) → let k = x .before .before .before .before in let a = k .before .before .before .before .before .before .before .before .before .before .args in
-    Lists (a .cache) (lent (a .heads .now) (a .keys .now) (a .kept .now)) (a .snapshot) (a .area .now) (a .subject .now) (a .out .now)
+    Lists (a .cache) (lent (a .stamps .now) (a .keys .now) (a .kept .now)) (a .snapshot) (a .area .now) (a .subject .now) (a .out .now)
     (x .count .given .0 .0) (k .match-parsed .last .1 .1 .1 .0)
 listed x =
     let k = x .before .before .before .before in
     let a = k .before .before .before .before .before .before .before .before .before .before .args in
     let g = x .count .given in
-    walk-lists (a .cache) (lent (a .heads .now) (a .keys .now) (a .kept .now)) (a .snapshot) (a .area .now) (a .subject .now) (a .out .now)
+    walk-lists (a .cache) (lent (a .stamps .now) (a .keys .now) (a .kept .now)) (a .snapshot) (a .area .now) (a .subject .now) (a .out .now)
     (g .0 .0) (g .0 .1 .0) (g .0 .1 .1 .0 .0) (k .match-parsed .last .1 .1 .1 .0)
     (told k (Listed (g .0 .0) (g .0 .1 .0) (g .0 .1 .1 .0)) (g .1))
 
@@ -84,8 +85,10 @@ keep-list-requires c κs =
     let k = x .before .before .before .before in
     let e = k .before .before in
     let start = e .before .before .before .before .before .before .before .before in
-    let a = start .args in
-    ready-current (a .snapshot .generation) (a .cache) (e .adopt .result) (lent (a .heads .now) (a .keys .now) (a .kept .now)) (on e) (start .pre .0)
+    let a = start .args in (
+      ready-current (a .snapshot .generation) (a .cache) (e .adopt .result) (lent (a .stamps .now) (a .keys .now) (a .kept .now)) (on e) (start .pre .0),
+      accepted-some (a .subject .now) _ (start .pre .1 .1),
+    )
 
 returns : tie.Need-returns
 returns c =
@@ -112,7 +115,7 @@ returns-4 c =
     let e = k .before .before in
     let a = e .before .before .before .before .before .before .before .before .args in
     let l = done .keep-list in
-    kept-walk (a .cache) (lent (a .heads .now) (a .keys .now) (a .kept .now)) (a .snapshot) (a .area .now) (a .subject .now) (a .out .now)
+    kept-walk (a .cache) (lent (a .stamps .now) (a .keys .now) (a .kept .now)) (a .snapshot) (a .area .now) (a .subject .now) (a .out .now)
     (x .count .given .0 .0) (k .match-parsed .last .1 .1 .1 .0) (listed x)
     (e .adopt .result) (on e) (l .result) (lent (l .last .1 .0) (l .last .1 .1 .0) (l .last .1 .1 .1 .0)) (l .ensures)
 

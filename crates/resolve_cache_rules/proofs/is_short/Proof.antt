@@ -18,4 +18,4 @@ returns-4 c = rw (le-ltb _ _ (c .before .before .if1 .left), le-ltb _ _ (c .befo
 
 pub is-short-spec : {M : Type 1} → statement M
 is-short-spec =
-    tie.close (tie.spec returns (λ c. search needs) returns-2 (λ c. search needs) returns-3 (λ c. search needs) returns-4)
+    tie.close (tie.spec returns returns-2 (λ c. search needs) (λ c. search needs) returns-3 (λ c. search needs) returns-4)

@@ -15,7 +15,7 @@ returns : tie.Need-returns
 returns c =
     let s = c .before .before .before .before .before .before .before .before in
     let a = s .args in
-    sym (resolve-99 (a .cache) (lent (a .heads .now) (a .keys .now) (a .kept .now)) (a .snapshot) (a .area .now) (a .subject .now) (a .out .now)
+    sym (resolve-99 (a .cache) (lent (a .stamps .now) (a .keys .now) (a .kept .now)) (a .snapshot) (a .area .now) (a .subject .now) (a .out .now)
     (ltb-true copyBytes _ (sym (c .before .copies-full .ensures) ∙ c .if1 .taken)))
 
 resolve-copies-requires : tie.Need-resolve-copies-requires
@@ -23,7 +23,7 @@ resolve-copies-requires c κs =
     let i = c .before .before .before .before .before .before .before .before in
     let s = i .before .before .before .before .before .before .before .before in
     let a = s .args in
-    let few : length (a .heads .now) + length (a .kept .now) + length (a .area .now) + length (a .out .now) ≤ copyBytes = ltb-false copyBytes _ (sym (i .before .copies-full .ensures) ∙ i .if1 .left) in
+    let few : length (a .stamps .now) + length (a .kept .now) + length (a .area .now) + length (a .out .now) ≤ copyBytes = ltb-false copyBytes _ (sym (i .before .copies-full .ensures) ∙ i .if1 .left) in
     search needs
 
 returns-2 : tie.Need-returns-2
@@ -34,7 +34,7 @@ returns-2 c =
     let a = s .args in
     told-bytes (c .told .result) (r .resolve-copies .result) _ _ (c .told .ensures)
     ∙ r .resolve-copies .ensures
-    ∙ sym (resolve-taken (a .cache) (lent (a .heads .now) (a .keys .now) (a .kept .now)) (a .snapshot) (a .area .now) (a .subject .now) (a .out .now)
+    ∙ sym (resolve-taken (a .cache) (lent (a .stamps .now) (a .keys .now) (a .kept .now)) (a .snapshot) (a .area .now) (a .subject .now) (a .out .now)
     (ltb-false copyBytes _ (sym (i .before .copies-full .ensures) ∙ i .if1 .left)))
 
 pub resolve-bytes-spec : {M : Type 1} → statement M

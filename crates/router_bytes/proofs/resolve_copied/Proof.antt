@@ -12,7 +12,7 @@ returns c =
     let s = k .before .before .before .before .before .before .before .before .before .before .before .before .before .before in
     let a = s .args in
     put-back (k .resolve .result) _ _ _ _ (a .cache) (a .snapshot) (a .area-words .now) (a .subject .now) (a .longs .now) (a .kept-words .now) (a .out-words .now)
-    (lent (a .heads .now) (a .keys .now) (a .kept .now)) (a .out .now) (k .resolve .ensures) _ _ _ (p .put-all-back .ensures)
+    (lent (a .stamps .now) (a .keys .now) (a .kept .now)) (a .out .now) (k .resolve .ensures) _ _ _ (p .put-all-back .ensures)
 
 pub resolve-copied-spec : {M : Type 1} → statement M
 resolve-copied-spec =

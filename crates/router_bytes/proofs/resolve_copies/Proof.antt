@@ -13,7 +13,7 @@ slice-aggregate-resolve-copied c =
     let h = c .before .before .before .before .before .before .before .before .before .before .before .before .before .before .before .before .before in
     let s = h .before .before .before .before .before .before .before .before .before .before .before .before .before in
     let a = s .args in
-    sym (front-length 8 (a .heads .now) (a .longs .now) (h .load-longs .last .1 .0) (h .load-longs .result) (h .load-longs .ensures .0) (h .load-longs .ensures .1))
+    sym (front-length 8 (a .stamps .now) (a .longs .now) (h .load-longs .last .1 .0) (h .load-longs .result) (h .load-longs .ensures .0) (h .load-longs .ensures .1))
 
 slice-aggregate-resolve-copied-2 : tie.Need-slice-aggregate-resolve-copied-2
 slice-aggregate-resolve-copied-2 c =
@@ -43,7 +43,7 @@ resolve-copied-requires c κs =
     let h = k .before .before .before .before .before in
     let s = h .before .before .before .before .before .before .before .before .before .before .before .before .before in
     let a = s .args in
-    let eh = front-length 8 (a .heads .now) (a .longs .now) (h .load-longs .last .1 .0) (h .load-longs .result) (h .load-longs .ensures .0) (h .load-longs .ensures .1) in
+    let eh = front-length 8 (a .stamps .now) (a .longs .now) (h .load-longs .last .1 .0) (h .load-longs .result) (h .load-longs .ensures .0) (h .load-longs .ensures .1) in
     let ek = front-length 4 (a .kept .now) (a .kept-words .now) (k .load-words .last .1 .0) (k .load-words .result) (k .load-words .ensures .0) (k .load-words .ensures .1) in
     let eo = front-length 4 (a .out .now) (a .out-words .now) (o .load-words3 .last .1 .0) (o .load-words3 .result) (o .load-words3 .ensures .0) (o .load-words3 .ensures .1) in
     (omega (arith, eh, h .load-longs .ensures .0), omega (arith, ek, k .load-words .ensures .0), omega (arith, eo, o .load-words3 .ensures .0))
@@ -74,8 +74,8 @@ returns c =
     let h = k .before .before .before .before .before in
     let s = h .before .before .before .before .before .before .before .before .before .before .before .before .before in
     let a = s .args in
-    same-resolve _ (lent (a .heads .now) (a .keys .now) (a .kept .now)) (a .out .now) (a .cache) (a .snapshot) (a .keys .now) (a .subject .now) _ _ _ _ _ _ _ _
-    (front 8 (a .heads .now) (a .longs .now) (h .load-longs .last .1 .0) (h .load-longs .result) (h .load-longs .ensures .0) (h .load-longs .ensures .1))
+    same-resolve _ (lent (a .stamps .now) (a .keys .now) (a .kept .now)) (a .out .now) (a .cache) (a .snapshot) (a .keys .now) (a .subject .now) _ _ _ _ _ _ _ _
+    (front 8 (a .stamps .now) (a .longs .now) (h .load-longs .last .1 .0) (h .load-longs .result) (h .load-longs .ensures .0) (h .load-longs .ensures .1))
     (front 4 (a .kept .now) (a .kept-words .now) (k .load-words .last .1 .0) (k .load-words .result) (k .load-words .ensures .0) (k .load-words .ensures .1))
     (front 4 (a .area .now) (a .area-words .now) (e .load-words2 .last .1 .0) (e .load-words2 .result) (e .load-words2 .ensures .0) (e .load-words2 .ensures .1))
     (front 4 (a .out .now) (a .out-words .now) (o .load-words3 .last .1 .0) (o .load-words3 .result) (o .load-words3 .ensures .0) (o .load-words3 .ensures .1))

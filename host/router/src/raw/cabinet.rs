@@ -4,6 +4,18 @@ use super::{
     Answer, CacheState, MadeCache, MadeSnapshot, Move, Resolved, SnapshotState, Stored, Verdict,
 };
 
+/// [`resolve`], or [`resolve_single_home_cached`].
+pub type Resolve = fn(
+    CacheState,
+    &mut [u64],
+    &mut [u8],
+    &mut [u32],
+    SnapshotState,
+    &[u32],
+    &[u8],
+    &mut [u32],
+) -> Resolved;
+
 calls! {
     /// A snapshot with a copy of a first table in its area, stamped 0; the first store will stamp 1. The table's own generation is not used. Or 19, 20.
     pub fn snapshot_new(
@@ -26,9 +38,9 @@ calls! {
         snapshot: SnapshotState, area: &[u32], subject: &[u8], out: &mut [u32],
     ) -> Answer = router_snapshot_match;
 
-    /// A fresh cache of so many slots, 0 counting as 1, over areas of 3 numbers, 256 bytes and 16 targets a slot. Or 17.
+    /// A fresh cache of so many slots, 0 counting as 1, over areas of a stamp, 260 bytes and 16 targets a slot. Or 17.
     pub fn cache_new(
-        capacity: usize, heads: &[u64], keys: &[u8], kept: &[u32],
+        capacity: usize, stamps: &[u64], keys: &[u8], kept: &[u32],
     ) -> MadeCache = router_cache_new;
 
     /// The cache emptied, its tick 0; generation and walks remain.
@@ -37,14 +49,14 @@ calls! {
     /// The targets of a subject through a cache: where the list lies (0 in `kept`, 1 in `out`), its first place and its length.
     /// Or 1 to 9, 17 to 19, 21.
     pub fn resolve(
-        cache: CacheState, heads: &mut [u64], keys: &mut [u8], kept: &mut [u32],
+        cache: CacheState, stamps: &mut [u64], keys: &mut [u8], kept: &mut [u32],
         snapshot: SnapshotState, area: &[u32], subject: &[u8], out: &mut [u32],
     ) -> Resolved = router_resolve;
 
-    /// The same on areas of bytes, lowest byte of a number first: 8 bytes a number of `heads`, 4 a word of the others; places and length count words.
-    /// 99 if `heads`, `kept`, `area` and `out` are together more than 65,536 bytes.
+    /// The same on areas of bytes, lowest byte of a number first: 8 bytes a stamp, 4 a word of `kept`, `area` and `out`; `keys` are the same. Places and length count words.
+    /// 99 if `stamps`, `kept`, `area` and `out` are together more than 65,536 bytes.
     pub fn resolve_bytes(
-        cache: CacheState, heads: &mut [u8], keys: &mut [u8], kept: &mut [u8],
+        cache: CacheState, stamps: &mut [u8], keys: &mut [u8], kept: &mut [u8],
         snapshot: SnapshotState, area: &[u8], subject: &[u8], out: &mut [u8],
     ) -> Resolved = router_resolve_bytes;
 
@@ -58,7 +70,7 @@ calls! {
 
     /// The verdict on a subject through a cache: kind, value and 0. Or the refusals of [`resolve`].
     pub fn resolve_single_home_cached(
-        cache: CacheState, heads: &mut [u64], keys: &mut [u8], kept: &mut [u32],
+        cache: CacheState, stamps: &mut [u64], keys: &mut [u8], kept: &mut [u32],
         snapshot: SnapshotState, area: &[u32], subject: &[u8], out: &mut [u32],
     ) -> Resolved = router_resolve_single_home_cached;
 

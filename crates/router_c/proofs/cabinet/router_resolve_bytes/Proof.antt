@@ -14,7 +14,7 @@ returns c =
     let k = c .before .before .before .before .before .before .before .before .before in
     let s = k .before .before .before .before .before in
     let a = s .before .before .before .before .before .before .before .before .args in
-    let area = lent (a .heads .now) (a .keys .now) (a .kept .now) in
+    let area = lent (a .stamps .now) (a .keys .now) (a .kept .now) in
     let same = same-states (λ (x : ResolveCache) (y : Snapshot). resolveBytes x area y (a .area .now) (a .subject .now) (a .out .now)) (s .before .from-c-cache .ensures) (s .from-c-snapshot .ensures) in
     told-resolved (c .to-c-bytes-resolved .ensures) (k .resolve-bytes .ensures ∙ same)
 
