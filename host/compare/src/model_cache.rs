@@ -1,16 +1,27 @@
 //! The resolve cache by its definitions, apart from the router: what each call answers, and the state and areas that it leaves. States and areas may be any.
 use crate::area::Words;
+use crate::model_mark::mark;
 use crate::model_snapshot::{answer, standing};
 use crate::original;
-use router::limits::{MAX_CAPACITY, SLOT_BYTES, SLOT_NUMBERS, SLOT_TARGETS};
+use router::limits::{KEY_BYTES, MAX_CAPACITY, SLOT_LISTS, SLOT_TARGETS};
 use router::raw::{Answer, CacheState, MadeCache, Resolved, SnapshotState};
 
-/// The areas of a cache.
+/// The areas of a cache. Where a slot's bytes lie in `keys` follows from the cache's capacity: four lists of so many bytes, then 256 bytes a slot.
 #[derive(Clone, Debug, Default, PartialEq, Eq)]
 pub struct Slots {
-    pub heads: Vec<u64>,
+    pub stamps: Vec<u64>,
     pub keys: Vec<u8>,
     pub kept: Vec<u32>,
+}
+
+/// What a slot says of itself in the four lists.
+#[derive(Clone, Copy, Debug, PartialEq, Eq)]
+pub struct Head {
+    /// Of the key, 1 to 2,048.
+    pub length: usize,
+    /// How many, 0 to 31.
+    pub targets: usize,
+    pub mark: u16,
 }
 
 /// Where a resolve turned back.
@@ -30,10 +41,8 @@ pub enum Stage {
 #[derive(Clone, Copy, Debug, PartialEq, Eq)]
 pub enum Way {
     Refused(Stage),
-    /// A kept list; another used slot may have the same key.
-    Hit {
-        equal_keys: bool,
-    },
+    /// A kept list.
+    Hit,
     /// A walk whose list went into an unused slot.
     Kept,
     /// A walk whose list went into the slot of smallest stamp; another may have the same stamp.
@@ -44,69 +53,96 @@ pub enum Way {
     NotKept,
 }
 
+impl Head {
+    /// What a slot says that keeps so many targets under a key.
+    pub fn of(key: &[u8], targets: usize) -> Head {
+        Head {
+            length: key.len(),
+            targets,
+            mark: mark(key),
+        }
+    }
+}
+
+/// Where a slot's key begins.
+fn key_start(capacity: usize, slot: usize) -> usize {
+    SLOT_LISTS * capacity + KEY_BYTES * slot
+}
+
 impl Slots {
-    pub fn key_length(&self, slot: usize) -> u64 {
-        self.heads[slot * SLOT_NUMBERS]
+    /// The key's length less one has its low eight bits in the first list. The second has the rest of it in its upper three bits, and the number of targets in
+    /// the lower five. The third and the fourth have the mark, low byte and high byte.
+    pub fn head(&self, capacity: usize, slot: usize) -> Head {
+        let [first, second, low, high] = [0, 1, 2, 3].map(|list| self.keys[list * capacity + slot]);
+        Head {
+            length: 1 + usize::from(first) + 256 * usize::from(second / 32),
+            targets: usize::from(second % 32),
+            mark: u16::from_le_bytes([low, high]),
+        }
     }
 
-    pub fn target_count(&self, slot: usize) -> u64 {
-        self.heads[slot * SLOT_NUMBERS + 1]
+    /// A slot is made to say this of itself, with these bytes over the first of its key.
+    pub fn put(&mut self, capacity: usize, slot: usize, head: Head, key: &[u8]) {
+        let [first, rest] = [(head.length - 1) % 256, (head.length - 1) / 256];
+        let [low, high] = head.mark.to_le_bytes();
+        let bytes = [first as u8, (32 * rest + head.targets) as u8, low, high];
+        for (list, byte) in bytes.into_iter().enumerate() {
+            self.keys[list * capacity + slot] = byte;
+        }
+        self.keys[key_start(capacity, slot)..][..key.len()].copy_from_slice(key);
     }
 
-    pub fn stamp(&self, slot: usize) -> u64 {
-        self.heads[slot * SLOT_NUMBERS + 2]
-    }
-
-    /// The subject of a slot that is not bad.
-    pub fn key(&self, slot: usize) -> &[u8] {
-        &self.keys[slot * SLOT_BYTES..][..self.key_length(slot) as usize]
+    /// The key of a slot, unless it is longer than the rest of the area.
+    pub fn key(&self, capacity: usize, slot: usize) -> Option<&[u8]> {
+        let length = self.head(capacity, slot).length;
+        self.keys[key_start(capacity, slot)..].get(..length)
     }
 
     /// 17: capacity over 1,024, or an area has not so many slots.
-    fn short(&self, capacity: usize) -> bool {
+    pub fn short(&self, capacity: usize) -> bool {
         capacity > MAX_CAPACITY
-            || self.heads.len() < SLOT_NUMBERS * capacity
-            || self.keys.len() < SLOT_BYTES * capacity
+            || self.stamps.len() < capacity
+            || self.keys.len() < (SLOT_LISTS + KEY_BYTES) * capacity
             || self.kept.len() < SLOT_TARGETS * capacity
     }
 
     /// 18: capacity 0, more slots used than there are, or a used slot with a longer key or more targets than it can hold.
     fn bad(&self, cache: CacheState) -> bool {
+        let CacheState { capacity, used, .. } = cache;
         let bad_slot = |slot| {
-            self.key_length(slot) > SLOT_BYTES as u64
-                || self.target_count(slot) > SLOT_TARGETS as u64
+            let head = self.head(capacity, slot);
+            head.length > KEY_BYTES || head.targets > SLOT_TARGETS
         };
-        cache.capacity == 0 || cache.used > cache.capacity || (0..cache.used).any(bad_slot)
+        capacity == 0 || used > capacity || (0..used).any(bad_slot)
     }
 
-    /// The first used slot that keeps the subject.
-    fn find(&self, used: usize, subject: &[u8]) -> Option<usize> {
-        (0..used).find(|&slot| self.key(slot) == subject)
-    }
-
-    /// Whether a used slot behind this one has the same key.
-    fn equal_keys(&self, slot: usize, used: usize) -> bool {
-        (slot + 1..used).any(|other| self.key(other) == self.key(slot))
+    /// The first used slot that keeps the subject: its mark and its bytes are the subject's.
+    fn find(&self, cache: CacheState, subject: &[u8]) -> Option<usize> {
+        let CacheState { capacity, used, .. } = cache;
+        let mark = mark(subject);
+        let keeps = |slot: &usize| {
+            self.head(capacity, *slot).mark == mark && self.key(capacity, *slot) == Some(subject)
+        };
+        (0..used).find(keeps)
     }
 
     /// The slot of smallest stamp, the lowest on a tie.
     fn oldest(&self, used: usize) -> usize {
-        let stamps = (0..used).map(|slot| (self.stamp(slot), slot));
+        let stamps = (0..used).map(|slot| (self.stamps[slot], slot));
         stamps.min().map_or(0, |(_, slot)| slot)
     }
 
     /// Whether another used slot has the same stamp.
     fn equal_stamps(&self, slot: usize, used: usize) -> bool {
         let mut others = (0..used).filter(|&other| other != slot);
-        others.any(|other| self.stamp(other) == self.stamp(slot))
+        others.any(|other| self.stamps[other] == self.stamps[slot])
     }
 
     /// The list goes into a slot, under a key and with a stamp. The rest of the slot stays.
-    fn keep(&mut self, slot: usize, key: &[u8], targets: &[u32], stamp: u64) {
-        let head = [key.len() as u64, targets.len() as u64, stamp];
-        self.heads[slot * SLOT_NUMBERS..][..SLOT_NUMBERS].copy_from_slice(&head);
-        self.keys[slot * SLOT_BYTES..][..key.len()].copy_from_slice(key);
-        self.kept[slot * SLOT_TARGETS..][..targets.len()].copy_from_slice(targets);
+    fn keep(&mut self, capacity: usize, slot: usize, key: &[u8], list: &[u32], stamp: u64) {
+        self.put(capacity, slot, Head::of(key, list.len()), key);
+        self.kept[slot * SLOT_TARGETS..][..list.len()].copy_from_slice(list);
+        self.stamps[slot] = stamp;
     }
 }
 
@@ -176,25 +212,26 @@ fn before_table(cache: CacheState, slots: &Slots, subject: &[u8]) -> Result<(), 
 }
 
 /// A hit: 21, or the slot is stamped and the list lies in `kept`. The output stays.
-fn hit(slots: &mut Slots, slot: usize, tick: u64, places: usize) -> Answer {
-    let count = slots.target_count(slot) as usize;
+fn hit(cache: CacheState, slots: &mut Slots, slot: usize, places: usize) -> Answer {
+    let count = slots.head(cache.capacity, slot).targets;
     if places < count {
         return answer(21, &[count]);
     }
-    slots.heads[slot * SLOT_NUMBERS + 2] = tick;
+    slots.stamps[slot] = cache.tick;
     answer(0, &[0, slot * SLOT_TARGETS, count])
 }
 
 /// A list goes into the first unused slot, or into the one of smallest stamp.
 fn keep(cache: &mut CacheState, slots: &mut Slots, subject: &[u8], list: &[u32]) -> Way {
-    if cache.used < cache.capacity {
-        slots.keep(cache.used, subject, list, cache.tick);
+    let CacheState { capacity, used, .. } = *cache;
+    if used < capacity {
+        slots.keep(capacity, used, subject, list, cache.tick);
         cache.used += 1;
         return Way::Kept;
     }
-    let slot = slots.oldest(cache.used);
-    let equal_stamps = slots.equal_stamps(slot, cache.used);
-    slots.keep(slot, subject, list, cache.tick);
+    let slot = slots.oldest(used);
+    let equal_stamps = slots.equal_stamps(slot, used);
+    slots.keep(capacity, slot, subject, list, cache.tick);
     Way::Dropped { equal_stamps }
 }
 
@@ -213,7 +250,7 @@ fn miss(
     out[..list.len()].copy_from_slice(&list);
     cache.tick = cache.tick.wrapping_add(1);
     cache.walks = cache.walks.wrapping_add(1);
-    let way = if subject.len() > SLOT_BYTES || list.len() > SLOT_TARGETS {
+    let way = if subject.len() > KEY_BYTES || list.len() > SLOT_TARGETS {
         Way::NotKept
     } else {
         keep(&mut cache, slots, subject, &list)
@@ -235,19 +272,18 @@ pub fn resolve(
         return refused(refusal, stage);
     }
     let mut on = adopt(snapshot.generation, cache);
-    let found = slots.find(on.used, subject);
+    let found = slots.find(on, subject);
     let Some(table) = standing(snapshot, area) else {
         let would_hit = found.is_some();
         return refused(answer(19, &[]), Stage::Counts { would_hit });
     };
     if let Some(slot) = found {
-        let equal_keys = slots.equal_keys(slot, on.used);
         on.tick = on.tick.wrapping_add(1);
-        let told = hit(slots, slot, on.tick, out.len());
+        let told = hit(on, slots, slot, out.len());
         if !told.accepted() {
             return refused(told, Stage::Hit);
         }
-        return (resolved(told, on), Way::Hit { equal_keys });
+        return (resolved(told, on), Way::Hit);
     }
     miss(on, slots, table, subject, out).unwrap_or_else(|refusal| refused(refusal, Stage::Walk))
 }

@@ -5,8 +5,8 @@ use compare::model_cache::{state_after, Slots};
 use compare::table::Table;
 use oracle::subject::Subject;
 use oracle::sublist::{Sublist, SublistBuilder, SublistSnapshot};
-use router::limits::{head_numbers, kept_words, key_bytes, table_words};
-use router::raw::{self, CacheState, SnapshotState};
+use router::limits::{kept_words, key_bytes, stamp_numbers, table_words};
+use router::raw::{self, CacheState, Resolve, SnapshotState};
 
 /// A yard's list on both sides.
 pub struct Yard {
@@ -57,17 +57,6 @@ pub struct Ours {
     out: Vec<u32>,
 }
 
-pub type Resolve = fn(
-    CacheState,
-    &mut [u64],
-    &mut [u8],
-    &mut [u32],
-    SnapshotState,
-    &[u32],
-    &[u8],
-    &mut [u32],
-) -> raw::Resolved;
-
 impl Ours {
     pub fn new(table: &Table, capacity: usize) -> Ours {
         let targets = table.target_words();
@@ -85,7 +74,7 @@ impl Ours {
             area,
             cache: CacheState::fresh(capacity),
             slots: Slots {
-                heads: vec![0; head_numbers(capacity)],
+                stamps: vec![0; stamp_numbers(capacity)],
                 keys: vec![0; key_bytes(capacity)],
                 kept: vec![0; kept_words(capacity)],
             },
@@ -112,7 +101,7 @@ impl Ours {
         let slots = &mut self.slots;
         let resolved = call(
             self.cache,
-            &mut slots.heads,
+            &mut slots.stamps,
             &mut slots.keys,
             &mut slots.kept,
             self.snapshot,

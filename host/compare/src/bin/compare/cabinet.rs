@@ -7,6 +7,7 @@ use crate::moves::Subjects;
 use crate::tally::Tally;
 use crate::theirs::{Numbers, Theirs};
 pub use cache_calls::{Ask, Form};
+use compare::area::Lent;
 use compare::model_cache::Slots;
 use router::raw::{CacheState, SnapshotState};
 use std::fmt::Debug;
@@ -123,6 +124,21 @@ fn made_there(number: u64) -> bool {
 }
 
 impl Side {
+    /// A snapshot with this table, of generation 0, and a cache.
+    pub fn standing(table: &Lent, cache: Cache) -> Side {
+        Side {
+            snapshot: SnapshotState {
+                nodes: table.nodes,
+                targets: table.targets,
+                generation: 0,
+                next: 1,
+            },
+            area: [&table.node_words[..], &table.target_words].concat(),
+            others: Vec::new(),
+            caches: vec![cache],
+        }
+    }
+
     fn turn(&mut self, other: usize) {
         let other = &mut self.others[other];
         swap(&mut self.snapshot, &mut other.snapshot);
@@ -138,9 +154,9 @@ impl Side {
         let others = self.others.iter().map(other).collect::<String>();
         let cache = |cache: &Cache| {
             let slots = &cache.slots;
-            let lengths = [slots.heads.len(), slots.keys.len(), slots.kept.len()];
+            let lengths = [slots.stamps.len(), slots.keys.len(), slots.kept.len()];
             format!(
-                "  {:?}, {lengths:?} numbers, bytes and targets\n",
+                "  {:?}, {lengths:?} stamps, bytes and targets\n",
                 cache.state
             )
         };
@@ -157,6 +173,12 @@ impl Cabinet {
             theirs,
             calls: Vec::new(),
         }
+    }
+
+    /// The same with something more to be told of the states at first, where there is a difference.
+    pub fn noted(mut self, note: &str) -> Cabinet {
+        self.began += note;
+        self
     }
 
     /// The states at first and now, and the calls between them.
@@ -184,7 +206,7 @@ impl Cabinet {
 
     fn same_slots(&self, tally: &mut Tally, on: usize) {
         let (ours, due) = (&self.ours.caches[on].slots, &self.due.caches[on].slots);
-        self.same_words(tally, "heads", &ours.heads, &due.heads);
+        self.same_words(tally, "stamps", &ours.stamps, &due.stamps);
         self.same_words(tally, "keys", &ours.keys, &due.keys);
         self.same_words(tally, "kept targets", &ours.kept, &due.kept);
     }
@@ -206,6 +228,11 @@ impl Cabinet {
 
     pub fn caches(&self) -> usize {
         self.due.caches.len()
+    }
+
+    /// The capacity that a cache has by its state.
+    pub fn capacity(&self, on: usize) -> usize {
+        self.due.caches[on].state.capacity
     }
 
     /// Another snapshot is taken in hand; the one at hand takes its place among the others.

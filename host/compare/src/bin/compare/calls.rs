@@ -6,14 +6,15 @@ use crate::moves;
 use crate::pools::{Pool, Pooled};
 use crate::seen;
 use crate::tables::fresh_words;
-use crate::tally::Tally;
+use crate::tally::{Family, Tally};
 use crate::theirs::Theirs;
 use compare::area::Words;
 use compare::model_cache::{self, Slots, Way};
 use compare::model_snapshot;
+use compare::one_mark;
 use compare::random::Random;
 use oracle::sublist::SublistSnapshot;
-use router::limits::{head_numbers, kept_words, key_bytes};
+use router::limits::{kept_words, key_bytes, stamp_numbers};
 use router::raw::{self, CacheState};
 use std::mem::swap;
 
@@ -40,22 +41,32 @@ fn first_generation(random: &mut Random) -> u64 {
     }
 }
 
-/// Areas of so many slots and some places more, with anything in them.
-pub fn any_slots(random: &mut Random, slots: usize) -> Slots {
-    let heads = head_numbers(slots) + random.below(4);
-    let keys = key_bytes(slots) + random.below(3);
-    let kept = fresh_words(kept_words(slots) + random.below(3));
+/// Areas of so many slots and some stamps, bytes and targets more, with anything in them.
+fn slots_and(random: &mut Random, slots: usize, more: [usize; 3]) -> Slots {
+    let stamps = stamp_numbers(slots) + more[0];
+    let keys = key_bytes(slots) + more[1];
     Slots {
-        heads: (0..heads).map(|_| random.draw()).collect(),
+        stamps: (0..stamps).map(|_| random.draw()).collect(),
         keys: (0..keys).map(|place| (place as u8) ^ 0x5a).collect(),
-        kept,
+        kept: fresh_words(kept_words(slots) + more[2]),
     }
+}
+
+/// Areas of so many slots.
+pub fn exact_slots(random: &mut Random, slots: usize) -> Slots {
+    slots_and(random, slots, [0; 3])
+}
+
+/// Areas of so many slots, and mostly of some places more.
+pub fn any_slots(random: &mut Random, slots: usize) -> Slots {
+    let more = [4, 3, 3].map(|end| random.below(end));
+    slots_and(random, slots, more)
 }
 
 /// A fresh cache, compared as it is made.
 fn fresh_cache(tally: &mut Tally, random: &mut Random, capacity: usize) -> Cache {
     let slots = any_slots(random, capacity.max(1));
-    let made = raw::cache_new(capacity, &slots.heads, &slots.keys, &slots.kept);
+    let made = raw::cache_new(capacity, &slots.stamps, &slots.keys, &slots.kept);
     let due = model_cache::with_capacity(capacity, &slots);
     tally.compare_on("cache_new", || format!("  {capacity}\n"), made, due);
     tally.called("cache_new", due.number);
@@ -242,8 +253,7 @@ impl World {
         }
         let odd = random.once_in(16).then(|| Odd::any(random));
         let (way, list) = self.cabinet.resolve(tally, Form::List, ask, odd);
-        let hit = matches!(way, Way::Hit { .. });
-        if hit && self.cabinet.may_be_stale() {
+        if way == Way::Hit && self.cabinet.may_be_stale() {
             let mut standing = Vec::new();
             let tree = &self.pool.tables[self.standing].tree;
             tree.walk(ask.subject, &mut standing);
@@ -320,6 +330,11 @@ pub fn wide_turn(tally: &mut Tally, random: &mut Random) {
     let capacity = [100, 400, 1024, 1024][random.below(4)];
     let lines = if random.once_in(2) { 300 } else { 1600 };
     let pool = Pool::yard(tally, random, lines, 3 * capacity / 2);
+    wide(tally, random, pool, capacity);
+}
+
+/// Each subject of a pool once through a cache of so many slots, and then calls in any order on it and on a small one.
+fn wide(tally: &mut Tally, random: &mut Random, pool: Pool, capacity: usize) {
     let small = 1 + random.below(40);
     let others = usize::from(random.once_in(4));
     let mut world = World::new(tally, random, pool, others, &[capacity, small]);
@@ -333,4 +348,22 @@ pub fn wide_turn(tally: &mut Tally, random: &mut Random) {
         world.cabinet.resolve(tally, Form::List, ask, None);
     }
     world.run(tally, random, 2 * capacity);
+}
+
+/// So many numbered subjects are tried for one mark: about one in 65,536 has it.
+const NUMBERED: usize = 2_000_000;
+
+/// The same with subjects of one mark: all of one length, and of several.
+pub fn one_mark(tally: &mut Tally, random: &mut Random) {
+    let numbered = |number| format!("yard.{number}{}", ".x".repeat(number % 12));
+    let several = one_mark::like_the_first((0..NUMBERED).map(numbered));
+    for capacity in [32, 33, 100, 1024] {
+        for subjects in [one_mark::of_one_length(), several.clone()] {
+            let mut pool = Pool::yard(tally, random, 300, 0);
+            pool.subjects = subjects.into_iter().map(String::into_bytes).collect();
+            wide(tally, random, pool, capacity);
+        }
+    }
+    let part = "calls on caches of 32 to 1,024 slots with subjects of one mark";
+    tally.report(Family::Calls, part);
 }

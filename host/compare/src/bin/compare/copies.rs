@@ -9,7 +9,7 @@ use router::raw::{self, CacheState, Resolved};
 /// How many bytes stand behind the last whole number.
 #[derive(Clone, Copy, Debug, Default)]
 pub struct Odd {
-    pub heads: usize,
+    pub stamps: usize,
     pub kept: usize,
     pub area: usize,
     pub out: usize,
@@ -18,7 +18,7 @@ pub struct Odd {
 impl Odd {
     pub fn any(random: &mut Random) -> Odd {
         Odd {
-            heads: random.below(8),
+            stamps: random.below(8),
             kept: random.below(4),
             area: random.below(4),
             out: random.below(4),
@@ -29,7 +29,7 @@ impl Odd {
 /// The areas that a call writes.
 #[derive(Clone, Debug, PartialEq, Eq)]
 pub struct Copies {
-    heads: Vec<u8>,
+    stamps: Vec<u8>,
     keys: Vec<u8>,
     kept: Vec<u8>,
     out: Vec<u8>,
@@ -42,9 +42,9 @@ fn with_odd(mut bytes: Vec<u8>, odd: usize) -> Vec<u8> {
 
 impl Copies {
     fn new(slots: &Slots, out: &[u32], odd: Odd) -> Copies {
-        let heads = slots.heads.iter().flat_map(|head| head.to_le_bytes());
+        let stamps = slots.stamps.iter().flat_map(|stamp| stamp.to_le_bytes());
         Copies {
-            heads: with_odd(heads.collect(), odd.heads),
+            stamps: with_odd(stamps.collect(), odd.stamps),
             keys: slots.keys.clone(),
             kept: with_odd(bytes_of(&slots.kept), odd.kept),
             out: with_odd(bytes_of(out), odd.out),
@@ -68,11 +68,11 @@ impl ByteCall {
         let cache = &side.caches[on];
         let area = with_odd(bytes_of(&side.area), odd.area);
         let mut left = Copies::new(&cache.slots, out, odd);
-        let bytes = left.heads.len() + left.kept.len() + area.len() + left.out.len();
+        let bytes = left.stamps.len() + left.kept.len() + area.len() + left.out.len();
         let refused = (bytes > MOST_BYTES).then(|| left.clone());
         let told = raw::resolve_bytes(
             cache.state,
-            &mut left.heads,
+            &mut left.stamps,
             &mut left.keys,
             &mut left.kept,
             side.snapshot,

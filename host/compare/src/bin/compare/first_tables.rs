@@ -35,9 +35,9 @@ fn ours(random: &mut Random, generation: u64) -> [Answer; 2] {
         ..CacheState::default()
     };
     let mut verdict = |snapshot: SnapshotState, area: &[u32]| {
-        let (heads, keys, kept) = (&mut slots.heads, &mut slots.keys, &mut slots.kept);
+        let (stamps, keys, kept) = (&mut slots.stamps, &mut slots.keys, &mut slots.kept);
         let call = raw::resolve_single_home_cached;
-        let told = call(cache, heads, keys, kept, snapshot, area, b"a", &mut [0]);
+        let told = call(cache, stamps, keys, kept, snapshot, area, b"a", &mut [0]);
         cache = model_cache::state_after(&told);
         answer(told.number, &[told.first as usize, told.second as usize])
     };

@@ -1,6 +1,8 @@
 //! The random parts. Each is made of turns, and each turn has a seed of its own, by which it can be made again.
 use crate::tally::{Family, Tally};
-use crate::{byte_limit, calls, crossing, hostile, kinds, limits, load, moves, states, texts};
+use crate::{
+    byte_limit, calls, crossing, hostile, kinds, limits, load, moves, slots, states, texts,
+};
 use compare::random::Random;
 use std::time::{Duration, Instant};
 
@@ -16,7 +18,7 @@ pub struct Part {
 }
 
 /// How many there are.
-pub const COUNT: usize = 13;
+pub const COUNT: usize = 14;
 
 static PARTS: [Part; COUNT] = [
     Part {
@@ -122,6 +124,15 @@ static PARTS: [Part; COUNT] = [
         turns: 2_500,
         share: 250,
         turn: moves::turn,
+    },
+    Part {
+        name: "slots",
+        about:
+            "resolves on caches made by hand, of any capacity, their slots filled from few subjects",
+        family: Family::Calls,
+        turns: 1_500,
+        share: 250,
+        turn: slots::turn,
     },
 ];
 

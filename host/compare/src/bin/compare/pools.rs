@@ -8,7 +8,7 @@ use compare::model::Tree;
 use compare::random::Random;
 use compare::table::NODE_WORDS;
 use oracle::sublist::{Sublist, SublistBuilder};
-use router::limits::SLOT_BYTES;
+use router::limits::KEY_BYTES;
 use router::raw;
 
 /// A list and its table on all sides.
@@ -99,8 +99,8 @@ fn small_lines(random: &mut Random, long_lists: bool) -> Vec<Line> {
 fn long_subject(random: &mut Random, over: bool) -> Vec<u8> {
     let length = match random.below(4) {
         0 if over => 4096 - random.below(2),
-        1 | 2 if over => SLOT_BYTES + 1 + random.below(3),
-        _ => SLOT_BYTES - random.below(2),
+        1 | 2 if over => KEY_BYTES + 1 + random.below(3),
+        _ => KEY_BYTES - random.below(2),
     };
     let mut subject = random.pick(&["a", "b", "a.b", "c.ä."]).as_bytes().to_vec();
     while subject.len() < length {

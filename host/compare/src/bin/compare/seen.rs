@@ -2,13 +2,15 @@
 use crate::load;
 use crate::met::Met;
 use crate::moves;
+use crate::sights;
+use crate::slots;
 use crate::theirs::Scope;
 use compare::made;
 use compare::model_cache::{Stage, Way};
 use compare::model_crossing::Due;
 use compare::model_load::Kind;
 use compare::original::MAX_TEXT;
-use router::limits::{MAX_CAPACITY, SLOT_BYTES};
+use router::limits::{KEY_BYTES, MAX_CAPACITY};
 use std::collections::BTreeMap;
 
 /// The answers that each call on a snapshot or a cache must give. No subject is refused as 4.
@@ -60,7 +62,6 @@ const MOVE_ANSWERS: [(&str, &[u64]); 1] =
 pub const HIT: &str = "hits";
 pub const STALE: &str = "hits on a list that the standing table does not give";
 pub const STALE_THERE: &str = "the same, compared: the original hands back that list too";
-pub const EQUAL_KEYS: &str = "hits on the first of equal keys";
 pub const KEPT: &str = "misses kept in a new slot";
 pub const DROPPED: &str = "misses kept in the slot of the smallest stamp";
 pub const DROPPED_OF_1024: &str = "the same in a cache of 1,024 slots";
@@ -86,11 +87,10 @@ pub const LISTS_ONLY: &str = "resolves compared with the original by list or ver
 pub const NOT_COMPARED: &str =
     "resolves not compared with the original, as two tables had one generation";
 
-const WAYS: [&str; 27] = [
+const WAYS: [&str; 26] = [
     HIT,
     STALE,
     STALE_THERE,
-    EQUAL_KEYS,
     KEPT,
     DROPPED,
     DROPPED_OF_1024,
@@ -162,14 +162,14 @@ pub fn ways(way: Way, subject: &[u8], capacity: u64) -> Vec<&'static str> {
         }
         Way::Refused(Stage::Hit) => [Some(SHORT_HIT), None, None],
         Way::Refused(Stage::Walk) => [Some(REFUSED_WALK), None, None],
-        Way::Hit { equal_keys } => [Some(HIT), also(EQUAL_KEYS, equal_keys), None],
+        Way::Hit => [Some(HIT), None, None],
         Way::Kept => [Some(KEPT), None, None],
         Way::Dropped { equal_stamps } => [
             Some(DROPPED),
             also(EQUAL_STAMPS, equal_stamps),
             also(DROPPED_OF_1024, capacity == MAX_CAPACITY as u64),
         ],
-        Way::NotKept if subject.len() > SLOT_BYTES => [Some(LONG_SUBJECT), None, None],
+        Way::NotKept if subject.len() > KEY_BYTES => [Some(LONG_SUBJECT), None, None],
         Way::NotKept => [Some(LONG_LIST), None, None],
     };
     [first, second, third].into_iter().flatten().collect()
@@ -195,6 +195,8 @@ pub struct Seen {
     pub made: Met<(Kind, load::met::Event)>,
     /// What whole moves came to, and at which place.
     pub moves: Met<moves::met::Event>,
+    /// What resolves on caches made by hand came to, and at which slot.
+    pub slots: Met<slots::met::Event>,
 }
 
 impl Seen {
@@ -218,6 +220,7 @@ impl Seen {
         }
         self.made.add(other.made);
         self.moves.add(other.moves);
+        self.slots.add(other.slots);
     }
 
     fn answered(&self, call: &'static str, number: u64) -> u64 {
@@ -262,7 +265,9 @@ impl Seen {
 
     /// Prints every count. What never came up, though it must.
     pub fn report(&self) -> Vec<String> {
-        let calls = self.report_on("calls on snapshots and caches", &ANSWERS, &WAYS);
+        let ways = [&WAYS[..], &sights::WAYS].concat();
+        let calls = self.report_on("calls on snapshots and caches", &ANSWERS, &ways);
+        let slots_met = slots::met::report(&self.slots);
         let about = "crossings of two patterns";
         let crossings = self.report_on(about, &CROSSING_ANSWERS, &CROSSING_WAYS);
         let about = "made patterns and subjects";
@@ -270,6 +275,9 @@ impl Seen {
         let made_met = load::met::report(&self.made);
         let moves = self.report_on("whole moves", &MOVE_ANSWERS, &[]);
         let moves_met = moves::met::report(&self.moves);
-        [calls, crossings, made, made_met, moves, moves_met].concat()
+        [
+            calls, slots_met, crossings, made, made_met, moves, moves_met,
+        ]
+        .concat()
     }
 }

@@ -8,13 +8,17 @@ use crate::pools::Pool;
 use crate::tables::fresh_words;
 use crate::tally::Tally;
 use compare::area::Lent;
-use compare::model_cache::{self, Slots};
+use compare::model_cache::{self, Head, Slots};
 use compare::model_snapshot;
 use compare::original_calls;
 use compare::random::Random;
 use oracle::binding;
-use router::limits::{SLOT_BYTES, SLOT_NUMBERS, SLOT_TARGETS};
+use router::limits::{KEY_BYTES, SLOT_TARGETS};
 use router::raw::{self, CacheState, SnapshotState};
+
+/// The longest key that a slot can say it has, and one more than the most targets.
+const MOST_LENGTH: usize = 2048;
+const MOST_TARGETS: usize = 32;
 
 /// A number that may be any: mostly near the one named, often at the ends of the range.
 fn any_number(random: &mut Random, near: u64) -> u64 {
@@ -70,16 +74,38 @@ pub fn any_snapshot(random: &mut Random, table: &Lent) -> SnapshotState {
     }
 }
 
-/// A slot that keeps a list of any targets under one of the subjects, with a stamp that others may have; or one with any numbers.
-fn fill(random: &mut Random, slots: &mut Slots, slot: usize, subject: &[u8]) {
-    let length = mostly(random, subject.len().min(SLOT_BYTES) as u64, 40);
-    let count = random.below(SLOT_TARGETS + 1) as u64;
+/// A mark, or once in some times one that is another by its low byte, by its high byte, or by both.
+fn mostly_mark(random: &mut Random, mark: u16) -> u16 {
+    let off = 1 + random.below(255) as u16;
+    match random.below(20) {
+        0 => mark ^ off,
+        1 => mark ^ off << 8,
+        2 => random.draw() as u16,
+        _ => mark,
+    }
+}
+
+/// A slot that keeps a list of any targets under one of the subjects, with a stamp that others may have. Its mark is another once in some times, and once in
+/// `turns` it says any length or number of targets.
+pub fn fill(
+    random: &mut Random,
+    slots: &mut Slots,
+    capacity: usize,
+    slot: usize,
+    subject: &[u8],
+    turns: usize,
+) {
+    let key = &subject[..subject.len().min(KEY_BYTES)];
+    let own = Head::of(key, random.below(SLOT_TARGETS + 1));
+    let length_less_one = own.length.saturating_sub(1) as u64;
+    let head = Head {
+        length: 1 + mostly(random, length_less_one, turns) as usize % MOST_LENGTH,
+        targets: mostly(random, own.targets as u64, turns) as usize % MOST_TARGETS,
+        mark: mostly_mark(random, own.mark),
+    };
+    slots.put(capacity, slot, head, key);
     let stamp = random.below(4) as u64;
-    let head = [length, mostly(random, count, 40), mostly(random, stamp, 3)];
-    let at = slot * SLOT_NUMBERS;
-    slots.heads[at..at + SLOT_NUMBERS].copy_from_slice(&head);
-    let fits = subject.len().min(SLOT_BYTES);
-    slots.keys[slot * SLOT_BYTES..][..fits].copy_from_slice(&subject[..fits]);
+    slots.stamps[slot] = mostly(random, stamp, 3);
 }
 
 /// One of the areas is too short, by a little or by all.
@@ -89,7 +115,7 @@ fn shorten(random: &mut Random, slots: &mut Slots) {
         _ => length.saturating_sub(1 + random.below(5)),
     };
     match random.below(3) {
-        0 => slots.heads.truncate(cut(random, slots.heads.len())),
+        0 => slots.stamps.truncate(cut(random, slots.stamps.len())),
         1 => slots.keys.truncate(cut(random, slots.keys.len())),
         _ => slots.kept.truncate(cut(random, slots.kept.len())),
     }
@@ -101,7 +127,7 @@ fn any_cache(random: &mut Random, pool: &Pool) -> Cache {
     let mut slots = any_slots(random, count);
     for slot in 0..count {
         let subject = pool.subject(random);
-        fill(random, &mut slots, slot, subject);
+        fill(random, &mut slots, count, slot, subject, 40);
     }
     if random.once_in(12) {
         shorten(random, &mut slots);
@@ -225,9 +251,9 @@ fn made_cache(tally: &mut Tally, random: &mut Random) {
 }
 
 pub fn compare_made(tally: &mut Tally, capacity: usize, slots: &Slots) {
-    let made = raw::cache_new(capacity, &slots.heads, &slots.keys, &slots.kept);
+    let made = raw::cache_new(capacity, &slots.stamps, &slots.keys, &slots.kept);
     let due = model_cache::with_capacity(capacity, slots);
-    let lengths = [slots.heads.len(), slots.keys.len(), slots.kept.len()];
+    let lengths = [slots.stamps.len(), slots.keys.len(), slots.kept.len()];
     let inputs = || format!("  capacity {capacity} over {lengths:?}\n");
     tally.compare_on("cache_new", inputs, made, due);
     tally.called("cache_new", due.number);

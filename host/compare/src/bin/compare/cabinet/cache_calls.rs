@@ -2,6 +2,7 @@
 use super::{made_there, Cabinet, Call, Side};
 use crate::copies::{ByteCall, Odd};
 use crate::seen;
+use crate::sights::Sights;
 use crate::tables::fresh_words;
 use crate::tally::Tally;
 use crate::theirs::{Scope, Theirs};
@@ -9,7 +10,7 @@ use compare::model_binding;
 use compare::model_cache::{self, list_of, state_after, Stage, Way};
 use compare::model_snapshot::answer;
 use compare::original_calls;
-use router::limits::{SLOT_BYTES, SLOT_TARGETS};
+use router::limits::{KEY_BYTES, SLOT_TARGETS};
 use router::raw::{self, Answer, CacheState, Resolved};
 
 /// What is asked of a cache.
@@ -27,9 +28,10 @@ pub enum Form {
     Verdict,
 }
 
-/// What a resolve came to, and the cache's state before it.
+/// What a resolve came upon and came to, and the cache's state before it.
 struct Came {
     before: CacheState,
+    sights: Sights,
     due: Resolved,
     way: Way,
 }
@@ -51,7 +53,7 @@ impl Form {
         let slots = &mut cache.slots;
         call(
             cache.state,
-            &mut slots.heads,
+            &mut slots.stamps,
             &mut slots.keys,
             &mut slots.kept,
             side.snapshot,
@@ -131,7 +133,9 @@ impl Cabinet {
         self.meet();
         let (mut out, mut out_due) = (fresh_words(ask.places), fresh_words(ask.places));
         let bytes = odd.map(|odd| ByteCall::make(&self.ours, ask.on, ask.subject, &out, odd));
-        let before = self.due.caches[ask.on].state;
+        let cache = &self.due.caches[ask.on];
+        let sights = Sights::new(cache, self.due.snapshot.generation, ask.subject);
+        let before = cache.state;
         let (due, way) = form.by_definition(&mut self.due, ask, &mut out_due);
         let ours = form.by_router(&mut self.ours, ask, &mut out);
         self.same(tally, form.name(), ours, due);
@@ -143,7 +147,13 @@ impl Cabinet {
         }
         self.due.caches[ask.on].state = state_after(&due);
         self.ours.caches[ask.on].state = state_after(&ours);
-        self.count(tally, form, ask, Came { before, due, way });
+        let came = Came {
+            before,
+            sights,
+            due,
+            way,
+        };
+        self.count(tally, form, ask, came);
         let listed = due.number == 0 && form == Form::List;
         let kept = &self.due.caches[ask.on].slots.kept;
         let list = listed.then(|| list_of(&due, kept, &out_due).to_vec());
@@ -183,7 +193,7 @@ impl Cabinet {
         let told = form.by_original(theirs, ask, &mut their_list);
         let mut values = [due.first as usize, due.second as usize];
         if due.number == 0 && told.accepted() {
-            let over = ask.subject.len() > SLOT_BYTES || form.length(told) > SLOT_TARGETS as u64;
+            let over = ask.subject.len() > KEY_BYTES || form.length(told) > SLOT_TARGETS as u64;
             let scope = theirs.scope(ask.on, over);
             tally.seen.way(seen::scope(scope));
             if scope == Scope::Nothing {
@@ -210,8 +220,14 @@ impl Cabinet {
 impl Cabinet {
     /// Counts what a resolve came to.
     fn count(&self, tally: &mut Tally, form: Form, ask: Ask, came: Came) {
-        let Came { before, due, way } = came;
-        for way in seen::ways(way, ask.subject, due.capacity) {
+        let Came {
+            before,
+            sights,
+            due,
+            way,
+        } = came;
+        let ways = seen::ways(way, ask.subject, due.capacity);
+        for way in ways.into_iter().chain(sights.ways(way)) {
             tally.seen.way(way);
         }
         if way == Way::Refused(Stage::Walk) && before.generation != self.due.snapshot.generation {
