@@ -10,7 +10,7 @@ use Rattle.sublist_snapshot.specs.declared.Snapshot.{Snapshot}
 use Rattle.sublist_snapshot.specs.Rows.{snapshot, upTo, catchAll}
 use Rattle.resolve_cache_rules.specs.declared.ResolveCache.{ResolveCache}
 use Rattle.resolve_cache_rules.specs.Mark.{mark}
-use Rattle.resolve_cache_rules.specs.Area.{Area, keep}
+use Rattle.resolve_cache_rules.specs.Area.{Area, keyLength, targetCount, keep}
 use Rattle.resolve_cache_rules.specs.Cache.{withCapacity, clear, resolve}
 
 -- a slot as it is lent: a key, its targets, its stamp, and the key's mark or another; what a slot does not use is 7
@@ -106,6 +106,8 @@ pub data Row : Type 0 where
   asMaking : (capacity room : ℕ) (says : Answer) → Row
   -- a cache, and what a clear leaves
   asClear : (c then′ : ResolveCache) → Row
+  -- the bytes of one slot in the first two lists; the length of its key, and its number of targets
+  asRead : (bytes : List ℕ) (long targets : ℕ) → Row
   -- a text, and its mark
   asMark : (text : List ℕ) (is : ℕ) → Row
   -- a key, targets and a stamp kept in slot i of c, where all was 7: the stamps, the lists of bytes, the key with the
@@ -121,6 +123,7 @@ holds (asRefused c ss t subject out says) =
     ≡ record { says = says; cache = c; area = slots ss; out = out }
 holds (asMaking capacity room says) = withCapacity capacity (slots (replicate room (slot [] [] 0))) ≡ says
 holds (asClear c then′) = clear c ≡ then′
+holds (asRead bytes long targets) = (keyLength 1 bytes 0 ≡ long) × (targetCount 1 bytes 0 ≡ targets)
 holds (asMark text is) = mark text ≡ is
 holds (asKept c i key targets stamp stamps lists keys kept) =
     let a : Area = record { stamps = replicate c 7; keys = replicate (260 * c) 7; kept = replicate (16 * c) 7 } in
@@ -233,6 +236,11 @@ rows =
     (table 0 []) (bytes "p") (7 ∷ [])
     (kept 16 1) (cache 2 2 0 6 3) (marked 0x6393 (bytes "p") (8 ∷ []) 4 ∷ marked 0x6293 (bytes "p") (1 ∷ []) 6 ∷ [])
     (7 ∷ [])
+    -- 18 is whole: a key over 256 bytes and over 16 targets can both be lent, each alone and both together
+    ∷ asRead (255 ∷ 16 ∷ []) 256 16
+    ∷ asRead (0 ∷ 32 ∷ []) 257 0
+    ∷ asRead (0 ∷ 17 ∷ []) 1 17
+    ∷ asRead (255 ∷ 255 ∷ []) 2048 31
     -- marks, as a program apart from this one gives them
     ∷ asMark (bytes "p") 0x6293
     ∷ asMark (bytes "yard.17") 0x6577
