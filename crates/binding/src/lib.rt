@@ -1,4 +1,5 @@
 // The verdict on the targets found for a subject. A port of IronBus's binding.rs.
+#![tactic(auto)]
 ghost use Rattle.std.specs.Prelude.{◌≡◌};
 ghost use Rattle.resolve_cache_rules.specs.Cache.{handed};
 ghost use Rattle.resolve_cache.specs.Answers.{resolve_answer};
@@ -13,7 +14,7 @@ use subject::SubjectError;
 use sublist_snapshot::{Generation, Snapshot, SnapshotMatch};
 
 // Exactly one target, none, or several with their number.
-#[derive(Drop)]
+#[derive(Clone, Copy)]
 pub enum Resolution {
     Routed(u32),
     NoStream,
@@ -21,14 +22,14 @@ pub enum Resolution {
 }
 
 // The one target of a resolution, if it has one.
-#[derive(Drop)]
+#[derive(Clone, Copy)]
 pub enum RoutedTarget {
     Target(u32),
     Nothing,
 }
 
 // A verdict by a match, with the largest frontier and the standing table's generation, or why it is refused.
-#[derive(Drop)]
+#[derive(Clone, Copy)]
 pub enum SingleHome {
     Resolved {
         resolution: Resolution,
@@ -41,7 +42,7 @@ pub enum SingleHome {
 }
 
 // A verdict by a resolve, or why it is refused.
-#[derive(Drop)]
+#[derive(Clone, Copy)]
 pub enum CachedSingleHome {
     Resolved(Resolution),
     Invalid(SubjectError),
@@ -52,7 +53,7 @@ pub enum CachedSingleHome {
 }
 
 // A verdict by a resolve, and the cache afterwards.
-#[derive(Drop)]
+#[derive(Clone, Copy)]
 pub struct CachedResolution {
     pub cache: ResolveCache,
     pub answer: CachedSingleHome,

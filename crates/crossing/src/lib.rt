@@ -1,5 +1,6 @@
 // Crossing patterns: a subject that two patterns both match, or that there is none. Not in the original.
 // Both patterns are gone through twice: once to learn how long the subject is, then to write it.
+#![tactic(auto)]
 ghost use Rattle.std.specs.Prelude.{◌≡◌, [], ◌∷◌, map, ◌≤◌, length, set};
 ghost use Rattle.std.proofs.Math.Option.{some};
 ghost use Rattle.std.proofs.lemmas.List.Edits.{sets};
@@ -16,7 +17,7 @@ ghost use Rattle.crossing.specs.Writing.{reached, progress, ends_at};
 use subject::{MAX_TEXT, Parsed, SubjectError, Token};
 
 // A subject of so many bytes that two patterns both match, or that there is none; or a refusal.
-#[derive(Drop)]
+#[derive(Clone, Copy)]
 pub enum Crossed {
     Common(usize),
     Apart,
@@ -25,7 +26,7 @@ pub enum Crossed {
 }
 
 // How far a subject is put together, in bytes, a dot behind each token; or that there is none.
-#[derive(Drop)]
+#[derive(Clone, Copy)]
 enum Reach {
     Upto(usize),
     Nowhere,

@@ -1,5 +1,6 @@
 // The load maker: patterns and subjects that are the same on every bench. Not in the original.
 // The count of tokens is drawn on a copy of the state, before the output is measured: a refusal gives back the one lent.
+#![tactic(auto)]
 ghost use Rattle.std.specs.Prelude.{◌≡◌, ◌+◌, ◌*◌, ◌≤◌, true, false, length};
 ghost use Rattle.std.proofs.lemmas.List.Edits.{sets};
 ghost use Rattle.subject_rules.specs.Text.{joined};
@@ -8,7 +9,7 @@ ghost use Rattle.load_maker_rules.specs.Load.{pattern_byte, token_byte, made_tok
 ghost use Rattle.load_maker.specs.Answers.{made_by};
 
 // The length of the text that was made, or a refusal.
-#[derive(Drop)]
+#[derive(Clone, Copy)]
 pub enum TextAnswer {
     Text(usize),
     ZeroStart,
@@ -16,7 +17,7 @@ pub enum TextAnswer {
 }
 
 // What was made, and the state afterwards.
-#[derive(Drop)]
+#[derive(Clone, Copy)]
 pub struct MadeText {
     pub answer: TextAnswer,
     pub state: u64,

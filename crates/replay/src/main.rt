@@ -10,6 +10,7 @@
 //     cd host && cargo run --release --bin record ../crates/replay/stdin
 //
 // The folder host/compare/src/bin/record has the form: recording.rs that of every record, calls.rs the kinds.
+#![tactic(auto)]
 use router_c::{CAnswer, CCache, CMadeSnapshot, CResolved, CSnapshot, CStored};
 
 // ---- The areas that the calls are lent: room for 1,026 entries, for the 2,049 nodes of their table, and for eight
@@ -245,7 +246,7 @@ fn list_at(kind: usize) -> usize {
 // ---- What the calls leave for later ones.
 
 // Entries and bytes in use, and the counts and the generation of the table that was built last.
-#[derive(Drop)]
+#[derive(Clone, Copy)]
 struct List {
     pub entries: usize,
     pub used: usize,
@@ -255,7 +256,7 @@ struct List {
 }
 
 // What the last call on a cache gave, the cache's state in it, and the cache's areas.
-#[derive(Drop)]
+#[derive(Clone, Copy)]
 struct Cache {
     pub given: CResolved,
     pub stamps: Stamps,
@@ -265,7 +266,7 @@ struct Cache {
 
 // The answer to the last call, as the original gives it, and what later calls take: the list with its table, the
 // snapshot and the two caches.
-#[derive(Drop)]
+#[derive(Clone, Copy)]
 struct State {
     pub answer: CAnswer,
     pub list: List,

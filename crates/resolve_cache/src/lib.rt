@@ -2,6 +2,7 @@
 // A port of IronBus's ResolveCache.
 // The slots lie in three lent lists: `stamps` has a number a slot, `keys` four lists of a byte a slot (the key's length
 // less one; the number of targets; the mark, low byte and high byte) and then 256 bytes a slot, `kept` 16 targets.
+#![tactic(auto)]
 ghost use Rattle.std.specs.Prelude.{◌≡◌, ℕ, ◌+◌, ◌-◌, ◌*◌, ◌/◌, ◌%◌, ◌<◌, ◌≤◌, true, false, [], ◌∷◌, length, set, ◌≢◌, slice_index, slice_set};
 ghost use Rattle.subject_rules.specs.Answers.{answer, when_accepted};
 ghost use Rattle.subject.specs.Answers.{parsed};
@@ -27,7 +28,7 @@ use sublist_snapshot::{Generation, Snapshot, SnapshotMatch};
 const RUN: usize = 32;
 
 // Where a resolve's list lies: a part of the cache's targets, or the first places of the output. Or why it is refused.
-#[derive(Drop)]
+#[derive(Clone, Copy)]
 pub enum ResolveAnswer {
     Kept { from: usize, count: usize },
     Walked { count: usize },
@@ -39,28 +40,28 @@ pub enum ResolveAnswer {
 }
 
 // A resolve's answer, and the cache afterwards.
-#[derive(Drop)]
+#[derive(Clone, Copy)]
 pub struct Resolved {
     pub cache: ResolveCache,
     pub answer: ResolveAnswer,
 }
 
 // A slot that keeps a subject's list.
-#[derive(Drop)]
+#[derive(Clone, Copy)]
 enum Slot {
     At(usize),
     Nothing,
 }
 
 // The mark of a key: its low byte and its high byte.
-#[derive(Drop)]
+#[derive(Clone, Copy)]
 struct Mark {
     low: u8,
     high: u8,
 }
 
 // What a resolve comes to before anything is written.
-#[derive(Drop)]
+#[derive(Clone, Copy)]
 enum Decision {
     Refuse(ResolveAnswer),
     Hit { slot: usize, count: usize },

@@ -1,6 +1,7 @@
 // The resolve cache's state, and what each call on it answers and leaves: definitions and theorems.
 // A method stands in its type's crate, so the constructors and what reads the state are here; the resolve is code of
 // `resolve_cache`.
+#![tactic(auto)]
 ghost use Rattle.std.specs.Prelude.{◌≡◌, max, eqb};
 ghost use Rattle.resolve_cache_rules.specs.Cache.{short, with_capacity, new_cache, clear};
 ghost use Rattle.resolve_cache_rules.specs.Answers.{cache_answer, lent};
@@ -16,11 +17,11 @@ pub const KEY_BYTES: usize = 256;
 pub const SLOT_TARGETS: usize = 16;
 
 // A cache's own count of its resolves, which stamps its slots. A tick is never a generation.
-#[derive(Drop)]
+#[derive(Clone, Copy)]
 pub struct Tick(pub u64);
 
 // A cache's numbers; its slots lie in a lent area.
-#[derive(Drop)]
+#[derive(Clone, Copy)]
 pub struct ResolveCache {
     pub capacity: usize,
     pub used: usize,
@@ -30,7 +31,7 @@ pub struct ResolveCache {
 }
 
 // A fresh cache, or an area too short for it.
-#[derive(Drop)]
+#[derive(Clone, Copy)]
 pub enum MadeCache {
     Made(ResolveCache),
     CacheShort,

@@ -1,4 +1,5 @@
 // The match and the resolve on areas of bytes: their numbers are copied, and an accepted call's are written back.
+#![tactic(auto)]
 ghost use Rattle.std.specs.Prelude.{◌≡◌, [], ◌∷◌, ◌++◌, ◌+◌, ◌*◌, ◌/◌, ◌%◌, ◌≤◌, ltb, length, take, drop};
 ghost use Rattle.sublist_tree.specs.Lists.{put};
 ghost use Rattle.sublist_entries.specs.Inserting.{after_answer};
@@ -21,21 +22,21 @@ use sublist_walk::TableMatch;
 pub const COPY_BYTES: usize = 65536;
 
 // What a match on the copies tells, or 99: the areas are more than the copies hold.
-#[derive(Drop)]
+#[derive(Clone, Copy)]
 pub enum BytesMatch {
     Told(TableMatch),
     CopyFull,
 }
 
 // The same of a resolve.
-#[derive(Drop)]
+#[derive(Clone, Copy)]
 pub enum BytesAnswer {
     Told(ResolveAnswer),
     CopyFull,
 }
 
 // A resolve's answer, and the cache afterwards.
-#[derive(Drop)]
+#[derive(Clone, Copy)]
 pub struct BytesResolved {
     pub cache: ResolveCache,
     pub answer: BytesAnswer,

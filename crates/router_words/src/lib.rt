@@ -1,4 +1,5 @@
 // The structs that the C calls take and give, and how the router's values become numbers and numbers its states.
+#![tactic(auto)]
 ghost use Rattle.std.specs.Prelude.{◌≡◌, [], ◌∷◌};
 ghost use Rattle.subject_rules.specs.Answers.{answer};
 ghost use Rattle.subject.specs.Answers.{refusal, parsed, matched, placed};
@@ -33,7 +34,7 @@ use whole_move::WholeMove;
 
 // An answer: 0 or the number of a refusal, then its values, 0 where there is none.
 #[repr(C)]
-#[derive(Drop)]
+#[derive(Clone, Copy)]
 pub struct CAnswer {
     pub number: u64,
     pub first: u64,
@@ -43,7 +44,7 @@ pub struct CAnswer {
 
 // The making of a text: 0 and its length, or a refusal and its value; then the state.
 #[repr(C)]
-#[derive(Drop)]
+#[derive(Clone, Copy)]
 pub struct CMadeText {
     pub number: u64,
     pub value: u64,
@@ -52,7 +53,7 @@ pub struct CMadeText {
 
 // The state of a snapshot, lent by value; its words lie in a lent area.
 #[repr(C)]
-#[derive(Drop)]
+#[derive(Clone, Copy)]
 pub struct CSnapshot {
     pub nodes: usize,
     pub targets: usize,
@@ -62,7 +63,7 @@ pub struct CSnapshot {
 
 // The state of a cache, lent and given back by value; its slots lie in lent areas.
 #[repr(C)]
-#[derive(Drop)]
+#[derive(Clone, Copy)]
 pub struct CCache {
     pub capacity: usize,
     pub used: usize,
@@ -73,7 +74,7 @@ pub struct CCache {
 
 // The making of a snapshot: 0 with its state, or a refusal with zeros.
 #[repr(C)]
-#[derive(Drop)]
+#[derive(Clone, Copy)]
 pub struct CMadeSnapshot {
     pub number: u64,
     pub nodes: u64,
@@ -84,7 +85,7 @@ pub struct CMadeSnapshot {
 
 // A store: 0 with the generation stamped, or a refusal with 0; then the snapshot afterwards.
 #[repr(C)]
-#[derive(Drop)]
+#[derive(Clone, Copy)]
 pub struct CStored {
     pub number: u64,
     pub stamped: u64,
@@ -96,7 +97,7 @@ pub struct CStored {
 
 // The making of a cache: 0 with its state, or a refusal with zeros.
 #[repr(C)]
-#[derive(Drop)]
+#[derive(Clone, Copy)]
 pub struct CMadeCache {
     pub number: u64,
     pub capacity: u64,
@@ -108,7 +109,7 @@ pub struct CMadeCache {
 
 // An answer as that of CAnswer, then the cache afterwards.
 #[repr(C)]
-#[derive(Drop)]
+#[derive(Clone, Copy)]
 pub struct CResolved {
     pub number: u64,
     pub first: u64,
@@ -124,7 +125,7 @@ pub struct CResolved {
 // A verdict: 0, its kind (0 no target, 1 one, 2 several), the target or how many targets, the peak, the generation.
 // Or a refusal with its values, then zeros.
 #[repr(C)]
-#[derive(Drop)]
+#[derive(Clone, Copy)]
 pub struct CVerdict {
     pub number: u64,
     pub kind: u64,
@@ -136,7 +137,7 @@ pub struct CVerdict {
 // A whole move that is routed: 0, 0 and the number of targets. One that stops: 0, 1, the place of the first subject that
 // is not Routed, and the kind and value of its verdict. Or a refusal with its values, then zeros.
 #[repr(C)]
-#[derive(Drop)]
+#[derive(Clone, Copy)]
 pub struct CMove {
     pub number: u64,
     pub first: u64,

@@ -1,4 +1,5 @@
 // The table that a build makes of a list of entries. A port of IronBus's SublistBuilder, its `build`.
+#![tactic(auto)]
 ghost use Rattle.std.specs.Prelude.{◌≡◌, ℕ, ◌+◌, ◌-◌, ◌*◌, ◌/◌, ◌%◌, ◌<◌, ◌≤◌, min, max, [], ◌++◌, length, take, drop, slice_set};
 ghost use Rattle.std.proofs.Math.Option.{none};
 ghost use Rattle.subject_rules.specs.Text.{tokens};
@@ -34,7 +35,7 @@ const WORD: usize = 4294967296;
 const MAX_WORD: u32 = 4294967295;
 
 // Why a build is refused: 01's numbers 10 and 12 to 16, in order.
-#[derive(Drop)]
+#[derive(Clone, Copy)]
 pub enum SublistError {
     EntriesFull,
     BadEntry(usize),
@@ -45,7 +46,7 @@ pub enum SublistError {
 }
 
 // A build gives node count, worst case and generation, or a refusal.
-#[derive(Drop)]
+#[derive(Clone, Copy)]
 pub enum Built {
     Table {
         nodes: usize,
@@ -56,21 +57,21 @@ pub enum Built {
 }
 
 // Whether an entry is sound, or why not.
-#[derive(Drop)]
+#[derive(Clone, Copy)]
 enum EntryCheck {
     Sound,
     Bad(SublistError),
 }
 
 // Where a pattern ended and the node count afterwards; or no room for a node.
-#[derive(Drop)]
+#[derive(Clone, Copy)]
 enum Ended {
     At { node: u32, tail: bool, count: usize },
     Full,
 }
 
 // The node count after all entries, or no room for a node.
-#[derive(Drop)]
+#[derive(Clone, Copy)]
 enum Grown {
     Nodes(usize),
     Full,

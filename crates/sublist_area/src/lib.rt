@@ -1,4 +1,5 @@
 // The nodes of a table in a lent area of words: looking up a child, making one.
+#![tactic(auto)]
 ghost use Rattle.std.specs.Prelude.{◌≡◌, ℕ, ◌+◌, ◌*◌, ◌/◌, ◌<◌, ◌≤◌, ◌^◌, max, length};
 ghost use Rattle.sublist_tree.specs.Tree.{star, lit};
 ghost use Rattle.sublist_area_rules.specs.Words.{node_words, hash_is, by_hash, seek, literal_child, star_child};

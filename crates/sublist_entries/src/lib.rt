@@ -1,6 +1,7 @@
 // The list of entries: patterns by their places in a lent text store, with their targets.
 // A port of IronBus's SublistBuilder, its `insert`.
 // An entry is a record, or three plain numbers: start, length, target.
+#![tactic(auto)]
 ghost use Rattle.std.specs.Prelude.{◌≡◌, ◌-◌, ◌≤◌, length};
 ghost use Rattle.sublist_tree.specs.Lists.{put};
 ghost use Rattle.sublist_entries.specs.Inserting.{insert_says, insert_into};
@@ -17,7 +18,7 @@ pub const MAX_ENTRIES: usize = 2048;
 pub const ENTRY_NUMBERS: usize = 3;
 
 // A pattern's place in the text store, and its target.
-#[derive(Drop)]
+#[derive(Clone, Copy)]
 pub struct Entry {
     pub start: usize,
     pub length: usize,
@@ -25,14 +26,14 @@ pub struct Entry {
 }
 
 // How many entries of a lent list and how many bytes of its text store are in use.
-#[derive(Drop)]
+#[derive(Clone, Copy)]
 pub struct ListState {
     pub entries: usize,
     pub used: usize,
 }
 
 // An insert gives the list's new state, or a refusal.
-#[derive(Drop)]
+#[derive(Clone, Copy)]
 pub enum Inserted {
     Done(ListState),
     Invalid(SubjectError),
@@ -41,7 +42,7 @@ pub enum Inserted {
 }
 
 // What an insert decides: whether an entry is written, where, which one, and the answer.
-#[derive(Drop)]
+#[derive(Clone, Copy)]
 struct Placing {
     taken: bool,
     at: usize,

@@ -1,5 +1,6 @@
 // The snapshot: the table that stands, by its counts and generation, with its words in a lent area.
 // A port of IronBus's SublistSnapshot.
+#![tactic(auto)]
 ghost use Rattle.std.specs.Prelude.{◌≡◌, ◌+◌, ◌*◌, ◌≤◌, min, [], length};
 ghost use Rattle.std.proofs.Math.Seq.{paste};
 ghost use Rattle.subject_rules.specs.Answers.{answer, when_accepted};
@@ -13,12 +14,12 @@ use subject::{Parsed, SubjectError};
 use sublist_walk::TableMatch;
 
 // Which table an answer came from. A generation is never a tick.
-#[derive(Drop)]
+#[derive(Clone, Copy)]
 pub struct Generation(pub u64);
 
 // A table by its counts and its generation: the one that build gave it, or its stamp if it stands in a snapshot. Its
 // words are lent beside it.
-#[derive(Drop)]
+#[derive(Clone, Copy)]
 pub struct Sublist {
     pub nodes: usize,
     pub targets: usize,
@@ -26,7 +27,7 @@ pub struct Sublist {
 }
 
 // The standing table's counts and generation, and the generation that the next store stamps.
-#[derive(Drop)]
+#[derive(Clone, Copy)]
 pub struct Snapshot {
     pub nodes: usize,
     pub targets: usize,
@@ -35,7 +36,7 @@ pub struct Snapshot {
 }
 
 // A fresh snapshot, or why it is refused.
-#[derive(Drop)]
+#[derive(Clone, Copy)]
 pub enum MadeSnapshot {
     Made(Snapshot),
     Damaged,
@@ -43,7 +44,7 @@ pub enum MadeSnapshot {
 }
 
 // The generation that a stored table was stamped with, or why the store is refused.
-#[derive(Drop)]
+#[derive(Clone, Copy)]
 pub enum StoreAnswer {
     Stamped(Generation),
     Damaged,
@@ -51,14 +52,14 @@ pub enum StoreAnswer {
 }
 
 // A store's answer, and the snapshot afterwards.
-#[derive(Drop)]
+#[derive(Clone, Copy)]
 pub struct Stored {
     pub snapshot: Snapshot,
     pub answer: StoreAnswer,
 }
 
 // A list's length, the largest frontier and the standing table's generation, or why a match is refused.
-#[derive(Drop)]
+#[derive(Clone, Copy)]
 pub enum SnapshotMatch {
     Listed {
         count: usize,
@@ -71,7 +72,7 @@ pub enum SnapshotMatch {
 }
 
 // Whether a table was copied to the snapshot's area, or why not.
-#[derive(Drop)]
+#[derive(Clone, Copy)]
 enum Copied {
     Done,
     Damaged,

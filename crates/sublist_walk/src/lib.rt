@@ -1,4 +1,5 @@
 // The walk of a subject over a table, and the match. A table is lent as counts and words, any counts and any words.
+#![tactic(auto)]
 ghost use Rattle.std.specs.Prelude.{◌≡◌, [], ◌+◌, ◌-◌, ◌/◌, ◌≤◌, ◌<◌, ◌^◌, length, take, get_or};
 ghost use Rattle.std.proofs.lemmas.List.Edits.{sets};
 ghost use Rattle.subject_rules.specs.Answers.{answer, when_accepted};
@@ -33,7 +34,7 @@ const EXACT: usize = 4;
 const TAILS: usize = 6;
 
 // A list's length and the largest frontier, or why a match turns back.
-#[derive(Drop)]
+#[derive(Clone, Copy)]
 pub enum TableMatch {
     Listed { count: usize, peak: usize },
     Invalid(SubjectError),
@@ -42,35 +43,35 @@ pub enum TableMatch {
 }
 
 // A frontier of so many nodes.
-#[derive(Drop)]
+#[derive(Clone, Copy)]
 enum Front {
     Upto(usize),
     Failed(Failure),
 }
 
 // A list of so many targets, or a number that points outside.
-#[derive(Drop)]
+#[derive(Clone, Copy)]
 enum Collected {
     Upto(usize),
     Damaged,
 }
 
 // The sizes of the next frontier and of the list so far.
-#[derive(Drop)]
+#[derive(Clone, Copy)]
 enum Step {
     On { front: usize, length: usize },
     Failed(Failure),
 }
 
 // What a walk ends with: the list's length and the largest frontier.
-#[derive(Drop)]
+#[derive(Clone, Copy)]
 enum Walked {
     Found { length: usize, peak: usize },
     Failed(Failure),
 }
 
 // A match within a limit, or a frontier that would pass it. Without the case of a refused text it is handed back faster.
-#[derive(Drop)]
+#[derive(Clone, Copy)]
 enum Tried {
     Listed { count: usize, peak: usize },
     OutShort(usize),

@@ -2,6 +2,7 @@
 // FNV-1a, draws of xorshift and texts made by them, and says of each what came out and whether that is right. The
 // vectors are those of the FNV reference code by Fowler, Noll and Vo. The draws are the first from Marsaglia's own
 // start; they and the texts come from a separate program.
+#![tactic(auto)]
 use router_c::{CAnswer, CMadeText};
 
 // ---- The areas: room for the 1,024 runs of ten tokens and two entries more, and for the 2,049 nodes of their table.

@@ -1,4 +1,5 @@
 // Up to 64 subjects routed together by the standing table, or none of them. Not in the original.
+#![tactic(auto)]
 ghost use Rattle.std.specs.Prelude.{◌≡◌, true, map, ◌/◌, ◌≤◌, length, take};
 ghost use Rattle.std.proofs.Math.Option.{none};
 ghost use Rattle.subject.specs.Answers.{parsed};
@@ -16,7 +17,7 @@ use sublist_snapshot::{Snapshot, SnapshotMatch};
 pub const MAX_MOVE: usize = 64;
 
 // So many targets are written; or the first subject that is not Routed, and its verdict; or why the move is refused.
-#[derive(Drop)]
+#[derive(Clone, Copy)]
 pub enum WholeMove {
     Routed(usize),
     Stopped {
@@ -34,7 +35,7 @@ pub enum WholeMove {
 }
 
 // Whether subjects lie in the bytes and are accepted, or the first that is not.
-#[derive(Drop)]
+#[derive(Clone, Copy)]
 enum SubjectCheck {
     Sound,
     Outside(usize),
@@ -42,7 +43,7 @@ enum SubjectCheck {
 }
 
 // What the walk of a subject says.
-#[derive(Drop)]
+#[derive(Clone, Copy)]
 enum Judgement {
     Verdict(Resolution),
     Damaged,

@@ -1,1 +1,2 @@
 // What becomes of a whole move: definitions and theorems only, no code.
+#![tactic(auto)]

@@ -1,0 +1,30 @@
+-- `resolve_cache::keep_list` meets its contract. Assumes nothing.
+use Rattle.std.proofs.Common.{◌≡◌, true, sym, ◌∙◌, arith}
+use borrow.Author.Tests.{not-true, not-false}
+use Rattle.resolve_cache_rules.specs.Cache.{qualifies}
+use Rattle.resolve_cache_rules.specs.Answers.{lent}
+use Rattle.resolve_cache.proofs.Keeping.{kept_sizes, unkept, list-kept}
+use Rattle.resolve_cache.proofs.keep_list.Goals as goal
+use Rattle.resolve_cache.proofs.keep_list.Goals.{Else-not-qualifies}
+
+-- the list is to be kept
+
+fits : (x : Else-not-qualifies) → fits : (x : Else-not-qualifies) → let a = x.before.before.before.before.before.before.before.args in qualifies a.subject.now a.list.now ≡ true
+fits x = let q = x.before.qualifies in sym q.ensures ∙ not-false q.result x.if1.false
+
+
+pub returns-then-not-qualifies : goal.returns-then-not-qualifies
+returns-then-not-qualifies c =
+    unkept c.args.cache (lent c.args.stamps.now c.args.keys.now c.args.kept.now) c.args.subject.now c.args.list.now
+    (sym c.qualifies.ensures ∙ c.if-not-qualifies.true) c.walked.result c.walked.ensures
+
+pub keep-requires : goal.keep-requires
+keep-requires c =
+    let sizes = kept_sizes c.args.subject.now c.args.list.now (fits (goal.at.keep-requires c).After-shared_slice_known-1) in
+    (c.requires.0.wide, (omega arith, omega arith, omega arith, omega arith))
+
+pub returns : goal.returns
+returns c =
+    list-kept c.args.cache (lent c.args.stamps.now c.args.keys.now c.args.kept.now) c.args.subject.now c.args.list.now (fits (goal.at.returns c).After-shared_slice_known-1)
+    c.place-i.result c.place-i.ensures.0 c.next_tick-stamp.result c.next_tick-stamp.ensures
+    (lent c.keep.new.stamps c.keep.new.keys c.keep.new.kept) c.keep.ensures c.grown.result c.grown.ensures

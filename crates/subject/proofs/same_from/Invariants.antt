@@ -1,0 +1,10 @@
+-- `subject::same_from` meets its contract. The loop's invariant: what is left of the two is the same where the two are. Assumes nothing.
+use Rattle.std.proofs.Common.{◌≡◌, ◌-◌, ◌≤◌, length, drop}
+use Rattle.subject_rules.specs.Text.{same}
+use Rattle.subject.proofs.same_from.Given as goal
+
+abbrev pub invariant-loop-i : goal.invariant-loop-i
+invariant-loop-i l = (l.i ≤ length l.a) × (length l.a ≡ length l.b) × (same (drop l.i l.a) (drop l.i l.b) ≡ same (drop l.from l.a) (drop l.from l.b))
+
+abbrev pub decreases-loop-i : goal.decreases-loop-i
+decreases-loop-i l = length l.a - l.i

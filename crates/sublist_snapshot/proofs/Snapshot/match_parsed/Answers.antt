@@ -1,0 +1,33 @@
+-- `sublist_snapshot::Snapshot::match_parsed` meets its contract. Assumes nothing.
+use Rattle.std.proofs.Common.{◌≡◌, sym, ◌∙◌, arith, length-take-le}
+use Rattle.sublist_walk.specs.declared.TableMatch.{TableMatch}
+use Rattle.sublist_walk.specs.declared.TableMatch.TheVariants.{Listed, Invalid, Damaged, OutShort}
+use Rattle.sublist_walk.specs.Answers.{match_answer}
+use Rattle.subject_rules.specs.Outputs.{outcome}
+use Rattle.sublist_snapshot.specs.Snapshot.{with_generation, match_parsed_in}
+use Rattle.sublist_snapshot.proofs.Fronts.{refusal_stays, through}
+use Rattle.sublist_snapshot.proofs.Snapshot.match_parsed.Goals as goal
+
+told : (k : tie.After-match-parsed) (m : TableMatch) → k.match-parsed.result ≡ m
+    → let a = k.before.before.before.before.before.before.before.before.before.before.args in
+    with_generation a.self.generation (outcome (match_answer m) k.match-parsed.last.1.1.1.1.1.0) ≡ match_parsed_in a.self a.area.now a.subject.now a.out.now
+told k m q =
+    let a = k.before.before.before.before.before.before.before.before.before.before.args in
+    let f = k.before.before.before.before.before.before.front_of in
+    let z = k.before.before.before.before.before.smaller in
+    through a.self a.area.now f.result z.result f.ensures z.ensures a.subject.now a.out.now k.match-parsed.last.1.1.1.1.1.0 k.match-parsed.result m k.match-parsed.ensures q
+
+pub slice_bounds-match_parsed-end : goal.slice_bounds-match_parsed-end
+slice_bounds-match_parsed-end c = sym (length-take-le c.front_of-front.result c.args.area.now (omega arith))
+
+pub returns-in-Listed : goal.returns-in-Listed
+returns-in-Listed c = told (goal.at.returns-in-Listed c).After-match_parsed (Listed c.in-Listed.count c.in-Listed.peak) c.in-Listed.is
+
+pub returns-in-Invalid : goal.returns-in-Invalid
+returns-in-Invalid c = sym (refusal_stays c.args.self.generation c.in-Invalid.e c.match_parsed.new.out) ∙ told (goal.at.returns-in-Invalid c).After-match_parsed (Invalid c.in-Invalid.e) c.in-Invalid.is
+
+pub returns-in-Damaged : goal.returns-in-Damaged
+returns-in-Damaged c = told (goal.at.returns-in-Damaged c).After-match_parsed Damaged c.in-Damaged.is
+
+pub returns-in-OutShort : goal.returns-in-OutShort
+returns-in-OutShort c = told (goal.at.returns-in-OutShort c).After-match_parsed (OutShort c.in-OutShort.needed) c.in-OutShort.is

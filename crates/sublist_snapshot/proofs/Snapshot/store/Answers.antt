@@ -1,0 +1,27 @@
+-- `sublist_snapshot::Snapshot::store` meets its contract. Assumes nothing.
+use Rattle.std.proofs.Common.{◌≡◌}
+use Rattle.sublist_snapshot.specs.declared.Copied.{Copied}
+use Rattle.sublist_snapshot.specs.declared.Copied.TheVariants.{Done, Damaged, StoreFull}
+use Rattle.sublist_snapshot.specs.Snapshot.{Stored, stored_by, store_in}
+use Rattle.sublist_snapshot.specs.Answers.{lent_table}
+use Rattle.sublist_snapshot.specs.Copying.{copy_refusal}
+use Rattle.sublist_snapshot.proofs.Pasting.{stored_as}
+use Rattle.sublist_snapshot.proofs.Snapshot.store.Goals as goal
+
+told : (k : tie.After-copy-table) (m : Copied) → k.copy-table.result ≡ m
+    → let a = k.before.before.before.before.before.args in
+    let x = stored_by (copy_refusal m) a.self a.area.now (lent_table a.table a.node-words.now a.target-words.now) in
+    ◌≡◌ {A = Stored} (record { says = x.says; snapshot = x.snapshot; area = k.copy-table.new.1.1.1.0 })
+    (store_in a.self a.area.now (lent_table a.table a.node-words.now a.target-words.now))
+told k m q =
+    let a = k.before.before.before.before.before.args in
+    stored_as (lent_table a.table a.node-words.now a.target-words.now) a.area.now k.copy-table.new.1.1.1.0 k.copy-table.result m q k.copy-table.ensures a.self
+
+pub returns-in-Damaged : goal.returns-in-Damaged
+returns-in-Damaged c = told (goal.at.returns-in-Damaged c).After-copy_table Damaged c.in-Damaged.is
+
+pub returns-in-StoreFull : goal.returns-in-StoreFull
+returns-in-StoreFull c = told (goal.at.returns-in-StoreFull c).After-copy_table StoreFull c.in-StoreFull.is
+
+pub returns-in-Done : goal.returns-in-Done
+returns-in-Done c = rw c.wrapping_add_u64.ensures.value (told (goal.at.returns-in-Done c).After-copy_table Done c.in-Done.is)

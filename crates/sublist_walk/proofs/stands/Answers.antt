@@ -1,0 +1,22 @@
+use Prim.Native.Nat.{◌<◌}
+use native.Mathlib.Omega.{arith}
+use mathlib.Core.Path.{sym, ◌∙◌, ◌≡◌}
+use mathlib.Core.Logic.{⊎_elim}
+use lib.ListN.{length}
+use borrow.Author.Rules.{rules}
+use Rattle.sublist_walk_rules.proofs.Parts.{among_here, among_other}
+use Rattle.sublist_walk.proofs.stands.Goals as goal
+
+pub loop-i-preserved : goal.loop-i-preserved
+loop-i-preserved c =
+    let h : c.loop-i.i < length c.args.front.now = omega arith in (
+      ⊎_elim (λ w. among_here c.args.front.now c.loop-i.i c.args.id h w.0.taken ∙ sym w.1)
+          (λ w. among_other c.args.front.now c.loop-i.i c.args.id h w.0.left ∙ c.loop-i.invariant.0 ∙ sym w.1)
+          c.if-front-i.branch,
+      search rules,
+    )
+
+pub returns : goal.returns
+returns c =
+    let e : c.args.n ≡ c.loop-i.i = omega arith in
+    rw e (sym c.loop-i.invariant.0)
