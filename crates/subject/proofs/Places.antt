@@ -1,5 +1,5 @@
 -- Where token n of a text stands: a reader that has passed n tokens finds it there, and the text has its bytes there.
-use Rattle.std.proofs.Common.{◌≡◌, ℕ, zero, suc, ◌+◌, ◌-◌, ◌<◌, ◌≤◌, Bool, true, false, leb, List, [], ◌∷◌, length, get_or, take, drop, refl, ap, ◌∙◌, arith, length-drop, length-take, le-leb, leb-false, leb-true}
+use Rattle.std.proofs.Common.{◌≡◌, ℕ, zero, suc, ◌+◌, ◌-◌, ◌<◌, ◌≤◌, Bool, true, false, leb, List, [], ◌∷◌, length, get_or, take, drop, refl, ap, ◌∙◌, add-one, arith, length-drop, length-take, le-leb, leb-false, leb-true}
 use borrow.Author.Tests.{lt-leb}
 use Rattle.subject_rules.specs.Text.{tokens}
 use Rattle.subject.specs.Reading.{dot_from, tokens_from, token_at, past, place_in}
@@ -109,6 +109,14 @@ place-past : (ts : List (List ℕ)) (at n : ℕ) → length ts ≤ n → place_i
 place-past [] at n h = refl
 place-past (t ∷ ts) at zero h = absurd (omega arith)
 place-past (t ∷ ts) at (suc n) h = place-past ts (at + length t + 1) n (omega arith)
+
+-- a reader that has passed i tokens and reads one more
+pub passed_on : (text t : List ℕ) (i at next : ℕ) (k : Token) → t ≡ text → at ≡ passed text 0 i → k ≡ token_at t at → next ≡ past k at → next ≡ passed text 0 (i + 1)
+passed_on text t i at next k e f g h = rw add-one (h ∙ rw (g, e, f))
+
+-- what it reads is token i
+pub read_at : (text t : List ℕ) (i n at : ℕ) (k : Token) → t ≡ text → at ≡ passed text 0 i → i ≡ n → k ≡ token_at t at → k ≡ place_in 0 (tokens text) n
+read_at text t i n at k e f same g = g ∙ rw (e, f, same) (nth_read text n)
 
 pub nth_past : (text : List ℕ) (n : ℕ) → length (tokens text) ≤ n → place_in 0 (tokens text) n ≡ End
 nth_past text n h = place-past (tokens text) 0 n h

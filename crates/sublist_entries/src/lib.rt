@@ -2,6 +2,7 @@
 // A port of IronBus's SublistBuilder, its `insert`.
 // An entry is a record, or three plain numbers: start, length, target.
 #![tactic(auto)]
+
 ghost use Rattle.std.specs.Prelude.{◌≡◌, ◌-◌, ◌≤◌, length};
 ghost use Rattle.sublist_tree.specs.Lists.{put};
 ghost use Rattle.sublist_entries.specs.Inserting.{insert_says, insert_into};

@@ -2,7 +2,7 @@ use Rattle.std.proofs.Common.{sym, refl, ◌∙◌, ⊎_elim, arith, rules, le-l
 use borrow.Author.Tests.{lt-leb}
 use Rattle.subject.proofs.PlainTexts.{rest_end, rest_barred, rest_dots, rest_dot, rest_other}
 use Rattle.subject.proofs.plain_rest.Goals as goal
-use Rattle.subject.proofs.plain_rest.Goals.{then-b-eq46, else-b-eq46}
+use Rattle.subject.proofs.plain_rest.Goals.{then-b-eq46+else-behind, else-b-eq46}
 
 pub loop-i-init : goal.loop-i-init
 loop-i-init c = (omega arith, omega arith, refl)
@@ -17,8 +17,8 @@ pub loop-i-preserved : goal.loop-i-preserved
 loop-i-preserved c =
     let fair = sym c.is_barred.ensures ∙ c.if-is_barred.false in
     elim c.if-b-eq46.branch [
-      | then-b-eq46 w ↦ (omega arith, omega arith, rw (w.n-is, w.behind-is) (rest_dot _ c.loop-i.i _ _ (search rules) fair w.if-b-eq46.true w.if-behind.false) ∙ c.loop-i.invariant.2)
-      | else-b-eq46 w ↦ (omega arith, omega arith, rw (w.n-is, w.behind-is) (rest_other _ c.loop-i.i _ _ (search rules) fair w.if-b-eq46.false) ∙ c.loop-i.invariant.2)
+      | then-b-eq46+else-behind w ↦ (omega arith, omega arith, rw w.n-is (rest_dot _ c.loop-i.i _ _ (search rules) fair w.if-b-eq46.true w.if-behind.false) ∙ c.loop-i.invariant.2)
+      | else-b-eq46 w ↦ (omega arith, omega arith, rw w.n-is (rest_other _ c.loop-i.i _ _ (search rules) fair w.if-b-eq46.false) ∙ c.loop-i.invariant.2)
     ]
 
 pub returns-then-behind-2 : goal.returns-then-behind-2
