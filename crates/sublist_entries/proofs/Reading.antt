@@ -144,9 +144,9 @@ pub record Stands (taken : List TableEntry) (d : Desk) : Type 0 where
   pub inside : d.list.used ≤ length d.store
   pub below : Below d.list.used (in_use d.list d.places)
 
-unless-pick : (b : Bool) (r after : Answer) → unless (pick b (some r) none) after ≡ pick b r after
-unless-pick true r after = refl
-unless-pick false r after = refl
+unless-pick : (b : Bool) (r rest : Answer) → unless (pick b (some r) none) rest ≡ pick b r rest
+unless-pick true r rest = refl
+unless-pick false r rest = refl
 
 module _ (taken : List TableEntry) (d : Desk) (e : TableEntry) (s : Stands taken d) where
   pub says-demanded : (insert_on d e).says ≡ demanded taken d e
