@@ -2,7 +2,7 @@
 use Prim.Native.Nat.{ℕ, zero, suc, ◌≤◌, ◌<◌}
 use native.Mathlib.Omega.{arith}
 use native.Mathlib.Decide.{ℕ_discrete}
-use mathlib.Core.Path.{◌≡◌, refl, sym, ◌∙◌, ap}
+use mathlib.Core.Path.{◌≡◌, refl, sym, ◌∙◌, ap, subst}
 use mathlib.Core.Logic.{◌⊎◌, inl, inr}
 use mathlib.Core.Bool.{Bool, true}
 use mathlib.Core.List.{List, [], ◌∷◌, ◌++◌, map}
@@ -124,7 +124,7 @@ module _ {K : Type 0} (eq : K → K → Bool) (sound : (h g : K) → eq h g ≡ 
         sym (labels_length t (size t))
         ∙ as_many (run_is eq) (run_is-sound eq sound whole) run_is-same (labels t (size t)) (nodes eq ls) (labels_distinct t of.good (size t) (omega arith))
         (distinct_once (run_is eq) (run_is-sound eq sound whole) run_is-same ([] ∷ runs ls))
-        (λ r m. let w = labels_in t (size t) r m in rw (← w.2) (node_in w.0 w.1))
+        (λ r m. let w = labels_in t (size t) r m in subst (λ q. In q (nodes eq ls)) w.2 (node_in w.0 w.1))
         (λ r m. let w = in_node r m in rw (← w.2) (in_labels t (size t) w.0 w.1))
 
     pub size_count : (d : ℕ) → Within d ls → size t ≡ count eq d ls
