@@ -1,5 +1,6 @@
 // The verdict on the targets found for a subject. A port of IronBus's binding.rs.
 #![tactic(auto)]
+
 ghost use Rattle.std.specs.Prelude.{◌≡◌};
 ghost use Rattle.resolve_cache_rules.specs.Cache.{handed};
 ghost use Rattle.resolve_cache.specs.Answers.{resolve_answer};

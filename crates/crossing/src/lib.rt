@@ -1,6 +1,7 @@
 // Crossing patterns: a subject that two patterns both match, or that there is none. Not in the original.
 // Both patterns are gone through twice: once to learn how long the subject is, then to write it.
 #![tactic(auto)]
+
 ghost use Rattle.std.specs.Prelude.{◌≡◌, [], ◌∷◌, map, ◌≤◌, length, set};
 ghost use Rattle.std.proofs.Math.Option.{some};
 ghost use Rattle.std.proofs.lemmas.List.Edits.{sets};

@@ -1,6 +1,7 @@
 // The snapshot: the table that stands, by its counts and generation, with its words in a lent area.
 // A port of IronBus's SublistSnapshot.
 #![tactic(auto)]
+
 ghost use Rattle.std.specs.Prelude.{◌≡◌, ◌+◌, ◌*◌, ◌≤◌, min, [], length};
 ghost use Rattle.std.proofs.Math.Seq.{paste};
 ghost use Rattle.subject_rules.specs.Answers.{answer, when_accepted};

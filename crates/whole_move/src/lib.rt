@@ -1,5 +1,6 @@
 // Up to 64 subjects routed together by the standing table, or none of them. Not in the original.
 #![tactic(auto)]
+
 ghost use Rattle.std.specs.Prelude.{◌≡◌, true, map, ◌/◌, ◌≤◌, length, take};
 ghost use Rattle.std.proofs.Math.Option.{none};
 ghost use Rattle.subject.specs.Answers.{parsed};

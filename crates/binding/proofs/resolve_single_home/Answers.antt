@@ -13,25 +13,20 @@ use Rattle.sublist_snapshot.specs.Snapshot.{match_in}
 use Rattle.sublist_snapshot.specs.Answers.{snapshot_answer}
 use Rattle.binding.proofs.Judging.{match_down, match_inside, match_judged}
 use Rattle.binding.proofs.resolve_single_home.Goals as goal
-use Rattle.binding.proofs.resolve_single_home.Goals.{In-Listed}
+use Rattle.binding.proofs.resolve_single_home.Goals.{After-match_into, In-Listed}
 
 -- what the match answered
 
-told : (k : tie.After-match-into) (m : SnapshotMatch) → k.match-into.result ≡ m
-    → let a = k.before.before.before.before.before.args in
-    outcome (snapshot_answer m) k.match-into.last.1.1.1.0 ≡ match_in a.snapshot a.area.now a.subject.now a.out.now
-told k m q = ap (λ x. outcome (snapshot_answer x) k.match-into.last.1.1.1.0) (sym q) ∙ k.match-into.ensures
+told : (k : After-match_into) (m : SnapshotMatch) → k.match_into.result ≡ m
+    → outcome (snapshot_answer m) k.match_into.new.out ≡ match_in k.args.snapshot k.args.area.now k.args.subject.now k.args.out.now
+told k m q = ap (λ x. outcome (snapshot_answer x) k.match_into.new.out) (sym q) ∙ k.match_into.ensures
 
 -- its list lies within the output
 
-inside : (x : In-Listed) → inside : (x : In-Listed) → let k = x.before.before.before.before in x.count.given.0.0 ≤ length k.match-into.last.1.1.1.0
+inside : (x : In-Listed) → x.in-Listed.count ≤ length x.match_into.new.out
 inside x =
-    let k = x.before.before.before.before in
-    let a = k.before.before.before.before.before.args in
-    let g = x.count.given in
-    let h = match_inside a.snapshot a.area.now a.subject.now a.out.now k.match-into.last.1.1.1.0 g.0.0 g.0.1.0 g.0.1.1.0.0 (told k (Listed g.0.0 g.0.1.0 g.0.1.1.0) g.1) in
-    omega (arith, h, k.match-into.auto.1.1.1.0)
-
+    let h = match_inside x.args.snapshot x.args.area.now x.args.subject.now x.args.out.now x.match_into.new.out x.in-Listed.count x.in-Listed.peak x.in-Listed.generation.0 (told (goal.at.None c).After-match_into (Listed x.in-Listed.count x.in-Listed.peak x.in-Listed.generation) x.in-Listed.is) in
+    omega (arith, h, x.match_into.auto.out)
 
 pub slice_bounds-single_home-end : goal.slice_bounds-single_home-end
 slice_bounds-single_home-end c = inside (goal.at.slice_bounds-single_home-end c).In-Listed

@@ -5,17 +5,15 @@ use Rattle.subject.proofs.Positions.{tokens-start, tokens-end}
 use Rattle.subject.proofs.Places.{Found, part-found, end-found}
 use Rattle.crossing.proofs.Turns.{first-used, second-used, first_tail, second-tail, both_stop, both_go}
 use Rattle.crossing.proofs.put_crossing.Goals as goal
-use Rattle.crossing.proofs.put_crossing.Goals.{In-Part-token_at}
+use Rattle.crossing.proofs.put_crossing.Goals.{In-Part, In-Part-token_at}
 
-first-at : (t : tie.After-p-start invariant-loop decreases-loop)
-    → let l = t.before.before.before in let g = t.p-start.given.0 in
-    Found l.before.before.before.before.before.args.first.now l.loop.p g.0 g.1.0 g.1.1.0
-first-at t = part-found _ _ _ _ _ _ t.before.before.token-at.ensures t.p-start.given.1
+first-at : (t : In-Part)
+    → Found t.args.first.now t.loop-p_start.p t.in-Part.p_start t.in-Part.p_end t.in-Part.p_next
+first-at t = part-found _ _ _ _ _ _ t.token_at.ensures t.in-Part.is
 
 second_at : (u : In-Part-token_at)
-    → let l = u.before.before.before.before.before.before.before in let g = u.start.given.0 in
-    Found l.before.before.before.before.before.args.second.now l.loop.q g.0 g.1.0 g.1.1.0
-second_at u = part-found _ _ _ _ _ _ u.before.before.token-at2.ensures u.start.given.1
+    → Found u.args.second.now u.loop-p_start.q u.in-Part-token_at.start u.in-Part-token_at.end u.in-Part-token_at.next
+second_at u = part-found _ _ _ _ _ _ u.token_at-in-loop-p_start.ensures u.in-Part-token_at.is
 
 pub loop-p_start-init : goal.loop-p_start-init
 loop-p_start-init c = (rw (tokens-start c.args.first.now, tokens-start c.args.second.now), search rules, refl)

@@ -8,9 +8,8 @@ use Rattle.crossing.proofs.put_rest.Goals as goal
 use Rattle.crossing.proofs.put_rest.Goals.{In-Part}
 
 next-at : (t : In-Part)
-    → let l = t.before.before.before in let g = t.start.given.0 in
-    Found l.before.before.before.before.args.text.now l.loop.p g.0 g.1.0 g.1.1.0
-next-at t = part-found _ _ _ _ _ _ t.before.before.token-at.ensures t.start.given.1
+    → Found t.args.text.now t.loop-start.p t.in-Part.start t.in-Part.end t.in-Part.next
+next-at t = part-found _ _ _ _ _ _ t.token_at.ensures t.in-Part.is
 
 pub loop-start-init : goal.loop-start-init
 loop-start-init c = (refl, search rules, refl)

@@ -12,25 +12,19 @@ use Rattle.resolve_cache.proofs.decide.Goals.{After-adopt-current, Else-is_bad, 
 
 -- 17 does not apply
 
-roomy : (k : Else-is_short) → roomy : (k : Else-is_short) → let a = k.before.before.before.before.before.before.before.before.before.before.before.args in
-    short a.cache.capacity (lent a.stamps.now a.keys.now a.kept.now) ≡ false
-roomy k = sym k.before.is-short.ensures ∙ k.if1.false
+roomy : (k : Else-is_short) → short k.args.cache.capacity (lent k.args.stamps.now k.args.keys.now k.args.kept.now) ≡ false
+roomy k = sym k.is_short.ensures ∙ k.if-is_short.false
 
 -- nor does 18
 
-good : (k : Else-is_bad) → good : (k : Else-is_bad) → let x = k.before.before in let a = x.before.before.before.before.before.before.before.before.before.before.before.args in
-    bad a.cache (lent a.stamps.now a.keys.now a.kept.now) ≡ false
-good k = sym k.before.is-bad.ensures ∙ k.if2.false
+good : (k : Else-is_bad) → bad k.args.cache (lent k.args.stamps.now k.args.keys.now k.args.kept.now) ≡ false
+good k = sym k.is_bad.ensures ∙ k.if-is_bad.false
 
 -- the cache on the standing table's generation
 
-on : (k : After-adopt-current) → on : (k : After-adopt-current) → let x = k.before.before.before.before.before.before in let a = x.before.before.before.before.before.before.before.before.before.before.before.args in
-    k.adopt.result ≡ adopt a.snapshot.generation a.cache
+on : (k : After-adopt-current) → k.adopt-current.result ≡ adopt k.args.snapshot.generation k.args.cache
 on k =
-    let x = k.before.before.before.before.before.before in
-    let a = x.before.before.before.before.before.before.before.before.before.before.before.args in
-    k.adopt.ensures ∙ ap (λ g. adopt g a.cache) k.before.generation.ensures
-
+    k.adopt-current.ensures ∙ ap (λ g. adopt g k.args.cache) k.generation.ensures
 
 pub returns-in_default : goal.returns-in_default
 returns-in_default c =

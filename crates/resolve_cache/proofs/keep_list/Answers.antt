@@ -9,9 +9,8 @@ use Rattle.resolve_cache.proofs.keep_list.Goals.{Else-not-qualifies}
 
 -- the list is to be kept
 
-fits : (x : Else-not-qualifies) → fits : (x : Else-not-qualifies) → let a = x.before.before.before.before.before.before.before.args in qualifies a.subject.now a.list.now ≡ true
-fits x = let q = x.before.qualifies in sym q.ensures ∙ not-false q.result x.if1.false
-
+fits : (x : Else-not-qualifies) → qualifies x.args.subject.now x.args.list.now ≡ true
+fits x = sym x.qualifies.ensures ∙ x.if-not-qualifies.false
 
 pub returns-then-not-qualifies : goal.returns-then-not-qualifies
 returns-then-not-qualifies c =

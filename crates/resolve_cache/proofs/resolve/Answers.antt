@@ -9,13 +9,10 @@ use Rattle.resolve_cache.proofs.resolve.Goals.{After-decide}
 
 -- what was decided
 
-told : (k : After-decide) (d : Decision) → told : (k : After-decide) (d : Decision) → k.decide.result ≡ d
-    → let a = k.before.before.before.before.before.before.before.before.before.before.before.args in
-    Decides a.cache (lent a.stamps.now a.keys.now a.kept.now) a.snapshot a.area.now a.subject.now a.out.now d
+told : (k : After-decide) (d : Decision) → k.decide.result ≡ d
+    → Decides k.args.cache (lent k.args.stamps.now k.args.keys.now k.args.kept.now) k.args.snapshot k.args.area.now k.args.subject.now k.args.out.now d
 told k d q =
-    let a = k.before.before.before.before.before.before.before.before.before.before.before.args in
-    subst (Decides a.cache (lent a.stamps.now a.keys.now a.kept.now) a.snapshot a.area.now a.subject.now a.out.now) q k.decide.ensures
-
+    subst (Decides k.args.cache (lent k.args.stamps.now k.args.keys.now k.args.kept.now) k.args.snapshot k.args.area.now k.args.subject.now k.args.out.now) q k.decide.ensures
 
 pub show-requires : goal.show-requires
 show-requires c =

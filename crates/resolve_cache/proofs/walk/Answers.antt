@@ -15,61 +15,48 @@ use Rattle.resolve_cache_rules.proofs.Faithful.{accepted_some}
 use Rattle.resolve_cache.specs.Deciding.{walking}
 use Rattle.resolve_cache.proofs.Keeping.{ready_current, Lists, walk_refused, walk_lists, kept-walk}
 use Rattle.resolve_cache.proofs.walk.Goals as goal
-use Rattle.resolve_cache.proofs.walk.Goals.{After-adopt-current, In-Listed}
+use Rattle.resolve_cache.proofs.walk.Goals.{After-adopt-current, After-match_parsed, In-Listed}
 
 -- what the match answered
 
-told : (k : tie.After-match-parsed) (m : SnapshotMatch) → k.match-parsed.result ≡ m
-    → let a = k.before.before.before.before.before.before.before.before.before.before.args in
-    outcome (snapshot_answer m) k.match-parsed.last.1.1.1.0 ≡ match_in a.snapshot a.area.now a.subject.now a.out.now
+told : (k : After-match_parsed) (m : SnapshotMatch) → k.match_parsed.result ≡ m
+    → outcome (snapshot_answer m) k.match_parsed.new.out ≡ match_in k.args.snapshot k.args.area.now k.args.subject.now k.args.out.now
 told k m q =
-    let start = k.before.before.before.before.before.before.before.before.before.before in
-    let a = start.args in
-    let accepted = start.requires.1 in
-    ap (λ x. outcome (snapshot_answer x) k.match-parsed.last.1.1.1.0) (sym q)
-    ∙ k.match-parsed.ensures
-    ∙ parsed_match a.snapshot a.area.now a.subject.now a.out.now _ accepted.1
+    ap (λ x. outcome (snapshot_answer x) k.match_parsed.new.out) (sym q)
+    ∙ k.match_parsed.ensures
+    ∙ parsed_match k.args.snapshot k.args.area.now k.args.subject.now k.args.out.now _ k.requires.1.1
 
--- a refusal
+-- k.args refusal
 
-refused : (k : tie.After-match-parsed) (m : SnapshotMatch) → k.match-parsed.result ≡ m → ((x : Answer) → snapshot_answer m ≡ when_accepted (snapshot_answer m) x)
-    → let a = k.before.before.before.before.before.before.before.before.before.before.args in
-    ◌≡◌ {A = Resolved}
-    (record { says = snapshot_answer m; cache = a.cache; area = lent a.stamps.now a.keys.now a.kept.now; out = k.match-parsed.last.1.1.1.0 })
-    (walking a.cache (lent a.stamps.now a.keys.now a.kept.now) a.snapshot a.area.now a.subject.now a.out.now)
+refused : (k : After-match_parsed) (m : SnapshotMatch) → k.match_parsed.result ≡ m → ((x : Answer) → snapshot_answer m ≡ when_accepted (snapshot_answer m) x)
+    → ◌≡◌ {A = Resolved}
+    (record { says = snapshot_answer m; cache = k.args.cache; area = lent k.args.stamps.now k.args.keys.now k.args.kept.now; out = k.match_parsed.new.out })
+    (walking k.args.cache (lent k.args.stamps.now k.args.keys.now k.args.kept.now) k.args.snapshot k.args.area.now k.args.subject.now k.args.out.now)
 refused k m q r =
-    let a = k.before.before.before.before.before.before.before.before.before.before.args in
-    walk_refused a.cache (lent a.stamps.now a.keys.now a.kept.now) a.snapshot a.area.now a.subject.now a.out.now
-    (snapshot_answer m) k.match-parsed.last.1.1.1.0 r (told k m q)
+    walk_refused k.args.cache (lent k.args.stamps.now k.args.keys.now k.args.kept.now) k.args.snapshot k.args.area.now k.args.subject.now k.args.out.now
+    (snapshot_answer m) k.match_parsed.new.out r (told c m q)
 
--- a list
+-- k.args list
 
-listed : (x : In-Listed) → listed : (x : In-Listed) → let k = x.before.before.before.before in let a = k.before.before.before.before.before.before.before.before.before.before.args in
-    Lists a.cache (lent a.stamps.now a.keys.now a.kept.now) a.snapshot a.area.now a.subject.now a.out.now
-    x.count.given.0.0 k.match-parsed.last.1.1.1.0
+listed : (x : In-Listed) → Lists x.args.cache (lent x.args.stamps.now x.args.keys.now x.args.kept.now) x.args.snapshot x.args.area.now x.args.subject.now x.args.out.now
+    x.in-Listed.count x.match_parsed.new.out
 listed x =
-    let k = x.before.before.before.before in
-    let a = k.before.before.before.before.before.before.before.before.before.before.args in
-    let g = x.count.given in
-    walk_lists a.cache (lent a.stamps.now a.keys.now a.kept.now) a.snapshot a.area.now a.subject.now a.out.now
-    g.0.0 g.0.1.0 g.0.1.1.0.0 k.match-parsed.last.1.1.1.0
-    (told k (Listed g.0.0 g.0.1.0 g.0.1.1.0) g.1)
+    walk_lists x.args.cache (lent x.args.stamps.now x.args.keys.now x.args.kept.now) x.args.snapshot x.args.area.now x.args.subject.now x.args.out.now
+    x.in-Listed.count x.in-Listed.peak x.in-Listed.generation.0 x.match_parsed.new.out
+    (told (goal.at.None c).After-match_parsed (Listed x.in-Listed.count x.in-Listed.peak x.in-Listed.generation) x.in-Listed.is)
 
 -- so many places are there
 
-inside : (x : In-Listed) → inside : (x : In-Listed) → let k = x.before.before.before.before in x.count.given.0.0 ≤ length k.match-parsed.last.1.1.1.0
+inside : (x : In-Listed) → x.in-Listed.count ≤ length x.match_parsed.new.out
 inside x =
-    let k = x.before.before.before.before in
-    let l = listed x in
-    omega (arith, l.counted, l.fits, k.match-parsed.auto.1.1.1.0)
+    let l = listed c in
+    omega (arith, l.counted, l.fits, x.match_parsed.auto.out)
 
 -- the cache on the standing table's generation
 
-on : (k : After-adopt-current) → on : (k : After-adopt-current) → let a = k.before.before.before.before.before.before.before.before.args in k.adopt.result ≡ adopt a.snapshot.generation a.cache
+on : (k : After-adopt-current) → k.adopt-current.result ≡ adopt k.args.snapshot.generation k.args.cache
 on k =
-    let a = k.before.before.before.before.before.before.before.before.args in
-    k.adopt.ensures ∙ ap (λ g. adopt g a.cache) k.before.generation.ensures
-
+    k.adopt-current.ensures ∙ ap (λ g. adopt g k.args.cache) k.generation.ensures
 
 pub slice_bounds-keep_list-end : goal.slice_bounds-keep_list-end
 slice_bounds-keep_list-end c = inside (goal.at.slice_bounds-keep_list-end c).In-Listed
@@ -78,11 +65,10 @@ pub slice_bounds-keep_list-end-in-Listed : goal.slice_bounds-keep_list-end-in-Li
 slice_bounds-keep_list-end-in-Listed c = sym (length-take-le c.in-Listed.count c.match_parsed.new.out (inside (goal.at.slice_bounds-keep_list-end-in-Listed c).In-Listed))
 
 pub keep_list-requires : goal.keep_list-requires
-keep_list-requires c =
-    (
-      ready_current c.args.snapshot.generation c.args.cache c.adopt-current.result (lent c.args.stamps.now c.args.keys.now c.args.kept.now) (on (goal.at.keep_list-requires c).After-generation) c.requires.0,
-      accepted_some c.args.subject.now _ c.requires.1.1,
-    )
+keep_list-requires c = (
+  ready_current c.args.snapshot.generation c.args.cache c.adopt-current.result (lent c.args.stamps.now c.args.keys.now c.args.kept.now) (on (goal.at.keep_list-requires c).After-generation) c.requires.0,
+  accepted_some c.args.subject.now _ c.requires.1.1,
+)
 
 pub returns-in-Invalid : goal.returns-in-Invalid
 returns-in-Invalid c = rw (c.refuse.ensures.0, c.refuse.ensures.1) (refused (goal.at.returns-in-Invalid c).After-match_parsed (Invalid c.in-Invalid.e) c.in-Invalid.is (λ x. refused_stands (Refused c.in-Invalid.e) c.in-Invalid.e x refl))

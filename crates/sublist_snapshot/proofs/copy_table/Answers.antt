@@ -11,13 +11,11 @@ use Rattle.sublist_snapshot.proofs.copy_table.Goals.{Else-not-counts_fit}
 
 -- the table's counts are within its areas
 
-counted : (k : Else-not-counts_fit) → counted : (k : Else-not-counts_fit) → let a = k.before.before.before.before.before.args in counts_fit a.table.nodes a.table.targets a.node-words.now a.target-words.now ≡ true
-counted k = sym k.before.counts_fit_lem.ensures ∙ not-false k.before.counts_fit_lem.result k.if1.false
+counted : (k : Else-not-counts_fit) → counts_fit k.args.table.nodes k.args.table.targets k.args.node_words.now k.args.target_words.now ≡ true
+counted k = sym k.counts_fit.ensures ∙ k.if-not-counts_fit.false
 
-
-fits : (k : Else-not-counts_fit) → fits : (k : Else-not-counts_fit) → let a = k.before.before.before.before.before.args in Fit a.table.nodes a.table.targets a.node-words.now a.target-words.now
-fits k = let a = k.before.before.before.before.before.args in counts_fit_lem a.table.nodes a.table.targets a.node-words.now a.target-words.now (counted k)
-
+fits : (k : Else-not-counts_fit) → Fit k.args.table.nodes k.args.table.targets k.args.node_words.now k.args.target_words.now
+fits k = counts_fit_lem k.args.table.nodes k.args.table.targets k.args.node_words.now k.args.target_words.now (counted c)
 
 pub returns-then-not-counts_fit : goal.returns-then-not-counts_fit
 returns-then-not-counts_fit c = rw (sym c.counts_fit.ensures ∙ c.if-not-counts_fit.true)

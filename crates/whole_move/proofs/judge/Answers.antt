@@ -15,32 +15,24 @@ use Rattle.whole_move.specs.declared.Judgement.TheVariants.{Verdict}
 use Rattle.whole_move.specs.Told.{judgement}
 use Rattle.whole_move.proofs.Judging.{match_says, judged-listed, judged-short, judged-damaged, judged-invalid}
 use Rattle.whole_move.proofs.judge.Goals as goal
-use Rattle.whole_move.proofs.judge.Goals.{In-Listed}
+use Rattle.whole_move.proofs.judge.Goals.{After-match_parsed, In-Listed}
 
 -- what the match answered
 
-told : (k : tie.After-match-parsed) (m : SnapshotMatch) → k.match-parsed.result ≡ m
-    → let a = k.before.before.before.before.args in
-    outcome (snapshot_answer m) k.match-parsed.last.1.1.1.0
-    ≡ with_generation a.snapshot.generation (written (walk_of a.snapshot a.area.now a.subject.now) (0 ∷ []))
+told : (k : After-match_parsed) (m : SnapshotMatch) → k.match_parsed.result ≡ m
+    → outcome (snapshot_answer m) k.match_parsed.new.out
+    ≡ with_generation k.args.snapshot.generation (written (walk_of k.args.snapshot k.args.area.now k.args.subject.now) (0 ∷ []))
 told k m q =
-    let start = k.before.before.before.before in
-    let a = start.args in
-    match_says a.snapshot a.area.now a.subject.now (0 ∷ []) k.match-parsed.last.1.1.1.0 start.requires.0 start.requires.1
-    k.match-parsed.result m k.match-parsed.ensures q
+    match_says k.args.snapshot k.args.area.now k.args.subject.now (0 ∷ []) k.match_parsed.new.out k.requires.0 k.requires.1
+    k.match_parsed.result m k.match_parsed.ensures q
 
--- its list is at the start of the output, and the verdict on it is the subject's
+-- its list is at the (goal.at.None c).Start of the output, and the verdict on it is the subject's
 
-listed : (x : In-Listed) → listed : (x : In-Listed) → let k = x.before.before.before in let a = k.before.before.before.before.args in
-    (x.count.given.0.0 ≤ length k.match-parsed.last.1.1.1.0)
-    × (Verdict (single_home (take x.count.given.0.0 k.match-parsed.last.1.1.1.0)) ≡ judgement (walk_of a.snapshot a.area.now a.subject.now))
+listed : (x : In-Listed) → (x.in-Listed.count ≤ length x.match_parsed.new.out)
+    × (Verdict (single_home (take x.in-Listed.count x.match_parsed.new.out)) ≡ judgement (walk_of x.args.snapshot x.args.area.now x.args.subject.now))
 listed x =
-    let k = x.before.before.before in
-    let a = k.before.before.before.before.args in
-    let g = x.count.given in
-    judged-listed a.snapshot.generation (0 ∷ []) k.match-parsed.last.1.1.1.0 (walk_of a.snapshot a.area.now a.subject.now)
-    g.0.0 g.0.1.0 g.0.1.1.0.0 (told k (Listed g.0.0 g.0.1.0 g.0.1.1.0) g.1)
-
+    judged-listed x.args.snapshot.generation (0 ∷ []) x.match_parsed.new.out (walk_of x.args.snapshot x.args.area.now x.args.subject.now)
+    x.in-Listed.count x.in-Listed.peak x.in-Listed.generation.0 (told (goal.at.None c).After-match_parsed (Listed x.in-Listed.count x.in-Listed.peak x.in-Listed.generation) x.in-Listed.is)
 
 pub slice_bounds-one-end : goal.slice_bounds-one-end
 slice_bounds-one-end c = (listed (goal.at.slice_bounds-one-end c).In-Listed).0

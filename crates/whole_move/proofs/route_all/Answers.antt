@@ -14,14 +14,13 @@ use Rattle.whole_move.proofs.route_all.Goals.{Else-not-stands_in, In-Routed}
 
 -- the table's counts fit
 
-stands : (k : Else-not-stands_in) → stands : (k : Else-not-stands_in) → let a = k.before.before.before.before.before.before.args in stands_in a.snapshot a.area.now ≡ true
-stands k = sym k.before.stands-in.ensures ∙ not-false k.before.stands-in.result k.if1.false
+stands : (k : Else-not-stands_in) → stands_in k.args.snapshot k.args.area.now ≡ true
+stands k = sym k.stands_in.ensures ∙ k.if-not-stands_in.false
 
 -- no more targets are counted than were gathered
 
-counted : (x : In-Routed) → counted : (x : In-Routed) → x.routed.given.0.0 ≤ length x.before.before.before.route-subjects.new.1.1.1.1.0
-counted x = rw x.routed.given.1 at x.before.before.before.route-subjects.ensures.1
-
+counted : (x : In-Routed) → x.in-Routed.count ≤ length x.route_subjects-routed.new.targets
+counted x = rw x.in-Routed.is at x.route_subjects-routed.ensures.1
 
 pub returns-then-not-stands_in : goal.returns-then-not-stands_in
 returns-then-not-stands_in c =

@@ -9,13 +9,9 @@ use Rattle.whole_move.proofs.Routing.{behind_nothing, routes-end, routes-damaged
 use Rattle.whole_move.proofs.route_subjects.Goals as goal
 use Rattle.whole_move.proofs.route_subjects.Goals.{In-loop-i}
 
-inside : (t : In-loop-i) → inside : (t : In-loop-i) → let a = t.before.before.before.before.before.before.args in let i = t.before.loop.i in
-    get_or a.spans.now (2 * i) 0 + get_or a.spans.now (2 * i + 1) 0 ≤ length a.bytes.now
+inside : (t : In-loop-i) → get_or t.args.spans.now (2 * t.loop-i.i) 0 + get_or t.args.spans.now (2 * t.loop-i.i + 1) 0 ≤ length t.args.bytes.now
 inside t =
-    let a = t.before.before.before.before.before.before.args in
-    let l = t.before.loop in
-    sound-inside a.bytes.now a.spans.now l.i t.loop-test.true l.invariant.1
-
+    sound-inside t.args.bytes.now t.args.spans.now t.loop-i.i t.loop-i-test.true t.loop-i.invariant.1
 
 pub loop-i-init : goal.loop-i-init
 loop-i-init c =
@@ -33,34 +29,30 @@ pub judge-requires : goal.judge-requires
 judge-requires c = (c.requires.0, sound-accepted c.args.bytes.now c.args.spans.now c.loop-i.i c.loop-i-test.true c.loop-i.invariant.1)
 
 pub returns-in_default : goal.returns-in_default
-returns-in_default c =
-    (
-      routes-damaged (walk_of c.args.snapshot c.args.area.now) c.args.bytes.now c.args.spans.now c.loop-i.targets c.loop-i.i _ c.loop-i.invariant.0 c.loop-i-test.true
-          c.judge.result c.judge.ensures c.in_default.is,
-      tt,
-    )
+returns-in_default c = (
+  routes-damaged (walk_of c.args.snapshot c.args.area.now) c.args.bytes.now c.args.spans.now c.loop-i.targets c.loop-i.i _ c.loop-i.invariant.0 c.loop-i-test.true
+      c.judge.result c.judge.ensures c.in_default.is,
+  tt,
+)
 
 pub returns-in_default-resolution : goal.returns-in_default-resolution
-returns-in_default-resolution c =
-    (
-      routes-stopped (walk_of c.args.snapshot c.args.area.now) c.args.bytes.now c.args.spans.now c.loop-i.targets c.loop-i.i _ c.loop-i.invariant.0 c.loop-i-test.true
-          c.judge.result c.judge.ensures c.in-Verdict.resolution c.in-Verdict.is c.in_default-resolution.keys2,
-      tt,
-    )
+returns-in_default-resolution c = (
+  routes-stopped (walk_of c.args.snapshot c.args.area.now) c.args.bytes.now c.args.spans.now c.loop-i.targets c.loop-i.i _ c.loop-i.invariant.0 c.loop-i-test.true
+      c.judge.result c.judge.ensures c.in-Verdict.resolution c.in-Verdict.is c.in_default-resolution.keys2,
+  tt,
+)
 
 pub loop-i-preserved : goal.loop-i-preserved
-loop-i-preserved c =
-    (
-      routes_on (walk_of c.args.snapshot c.args.area.now) c.args.bytes.now c.args.spans.now c.loop-i.targets c.loop-i.i _ c.loop-i.invariant.0 c.loop-i-test.true
-          c.judge.result c.judge.ensures c.in-Verdict.resolution c.in-Verdict.is c.in-Routed.target c.in-Routed.is (omega arith),
-      sound_on c.args.bytes.now c.args.spans.now c.loop-i.i c.loop-i-test.true c.loop-i.invariant.1,
-      search rules,
-      length-set c.loop-i.targets c.loop-i.i c.in-Routed.target ∙ c.loop-i.invariant.3,
-    )
+loop-i-preserved c = (
+  routes_on (walk_of c.args.snapshot c.args.area.now) c.args.bytes.now c.args.spans.now c.loop-i.targets c.loop-i.i _ c.loop-i.invariant.0 c.loop-i-test.true
+      c.judge.result c.judge.ensures c.in-Verdict.resolution c.in-Verdict.is c.in-Routed.target c.in-Routed.is (omega arith),
+  sound_on c.args.bytes.now c.args.spans.now c.loop-i.i c.loop-i-test.true c.loop-i.invariant.1,
+  search rules,
+  length-set c.loop-i.targets c.loop-i.i c.in-Routed.target ∙ c.loop-i.invariant.3,
+)
 
 pub returns : goal.returns
-returns c =
-    (
-      routes-end (walk_of c.args.snapshot c.args.area.now) c.args.bytes.now c.args.spans.now c.loop-i.targets c.loop-i.i _ c.loop-i.invariant.0 c.loop-i.invariant.2 c.loop-i-test.false,
-      omega (arith, c.requires.1.1, c.loop-i.invariant.3),
-    )
+returns c = (
+  routes-end (walk_of c.args.snapshot c.args.area.now) c.args.bytes.now c.args.spans.now c.loop-i.targets c.loop-i.i _ c.loop-i.invariant.0 c.loop-i.invariant.2 c.loop-i-test.false,
+  omega (arith, c.requires.1.1, c.loop-i.invariant.3),
+)

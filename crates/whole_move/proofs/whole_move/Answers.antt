@@ -10,19 +10,18 @@ use Rattle.whole_move.specs.Told.{checked}
 use Rattle.whole_move.proofs.Spans.{spans_length}
 use Rattle.whole_move.proofs.Ways.{whole_large, whole_refused, whole_sound}
 use Rattle.whole_move.proofs.whole_move.Goals as goal
-use Rattle.whole_move.proofs.whole_move.Goals.{Else-spans-gt-MAX_MOVE}
+use Rattle.whole_move.proofs.whole_move.Goals.{After-check_subjects, Else-spans-gt-MAX_MOVE}
 
 -- at most 64 subjects
 
-few : (k : Else-spans-gt-MAX_MOVE) → few : (k : Else-spans-gt-MAX_MOVE) → length (spans_in k.before.before.before.before.before.args.spans.now) ≤ 64
-few k = let a = k.before.before.before.before.before.args in omega (arith, k.if1.false, spans_length a.spans.now)
+few : (k : Else-spans-gt-MAX_MOVE) → length (spans_in k.args.spans.now) ≤ 64
+few k = omega (arith, k.if-spans-gt-MAX_MOVE.false, spans_length k.args.spans.now)
 
 -- what the check of them said
 
-told : (k : tie.After-check-subjects) (m : SubjectCheck) → k.check-subjects.result ≡ m
-    → let a = k.before.before.before.before.before.before.args in checked m ≡ bad_subjects a.bytes.now 0 (spans_in a.spans.now)
-told k m q = ap checked (sym q) ∙ k.check-subjects.ensures
-
+told : (k : After-check_subjects) (m : SubjectCheck) → k.check_subjects.result ≡ m
+    → checked m ≡ bad_subjects k.args.bytes.now 0 (spans_in k.args.spans.now)
+told k m q = ap checked (sym q) ∙ k.check_subjects.ensures
 
 pub returns-then-spans-gt-MAX_MOVE : goal.returns-then-spans-gt-MAX_MOVE
 returns-then-spans-gt-MAX_MOVE c = whole_large c.args.snapshot c.args.area.now c.args.bytes.now (spans_in c.args.spans.now) c.args.out.now (omega (arith, c.if-spans-gt-MAX_MOVE.true, spans_length c.args.spans.now))

@@ -7,15 +7,12 @@ use Rattle.subject_rules.specs.Outputs.{outcome}
 use Rattle.sublist_snapshot.specs.Snapshot.{with_generation, match_parsed_in}
 use Rattle.sublist_snapshot.proofs.Fronts.{refusal_stays, through}
 use Rattle.sublist_snapshot.proofs.Snapshot.match_parsed.Goals as goal
+use Rattle.sublist_snapshot.proofs.Snapshot.match_parsed.Goals.{After-match_parsed}
 
-told : (k : tie.After-match-parsed) (m : TableMatch) → k.match-parsed.result ≡ m
-    → let a = k.before.before.before.before.before.before.before.before.before.before.args in
-    with_generation a.self.generation (outcome (match_answer m) k.match-parsed.last.1.1.1.1.1.0) ≡ match_parsed_in a.self a.area.now a.subject.now a.out.now
+told : (k : After-match_parsed) (m : TableMatch) → k.match_parsed.result ≡ m
+    → with_generation k.args.self.generation (outcome (match_answer m) k.match_parsed.new.out) ≡ match_parsed_in k.args.self k.args.area.now k.args.subject.now k.args.out.now
 told k m q =
-    let a = k.before.before.before.before.before.before.before.before.before.before.args in
-    let f = k.before.before.before.before.before.before.front_of in
-    let z = k.before.before.before.before.before.smaller in
-    through a.self a.area.now f.result z.result f.ensures z.ensures a.subject.now a.out.now k.match-parsed.last.1.1.1.1.1.0 k.match-parsed.result m k.match-parsed.ensures q
+    through k.args.self k.args.area.now k.front_of-front.result k.smaller.result k.front_of-front.ensures k.smaller.ensures k.args.subject.now k.args.out.now k.match_parsed.new.out k.match_parsed.result m k.match_parsed.ensures q
 
 pub slice_bounds-match_parsed-end : goal.slice_bounds-match_parsed-end
 slice_bounds-match_parsed-end c = sym (length-take-le c.front_of-front.result c.args.area.now (omega arith))

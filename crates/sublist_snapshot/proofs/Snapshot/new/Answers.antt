@@ -7,15 +7,14 @@ use Rattle.sublist_snapshot.specs.Answers.{lent_table}
 use Rattle.sublist_snapshot.specs.Copying.{copy_refusal}
 use Rattle.sublist_snapshot.proofs.Pasting.{made_as}
 use Rattle.sublist_snapshot.proofs.Snapshot.new.Goals as goal
+use Rattle.sublist_snapshot.proofs.Snapshot.new.Goals.{After-copy_table}
 
-told : (k : tie.After-copy-table) (m : Copied) → k.copy-table.result ≡ m
-    → let a = k.before.before.before.before.before.args in
-    ◌≡◌ {A = Made}
-    (record { says = (made_by (copy_refusal m) (lent_table a.table a.node-words.now a.target-words.now) a.area.now).says; area = k.copy-table.new.1.1.1.0 })
-    (make (lent_table a.table a.node-words.now a.target-words.now) a.area.now)
+told : (k : After-copy_table) (m : Copied) → k.copy_table.result ≡ m
+    → ◌≡◌ {A = Made}
+    (record { says = (made_by (copy_refusal m) (lent_table k.args.table k.args.node_words.now k.args.target_words.now) k.args.area.now).says; area = k.copy_table.new.area })
+    (make (lent_table k.args.table k.args.node_words.now k.args.target_words.now) k.args.area.now)
 told k m q =
-    let a = k.before.before.before.before.before.args in
-    made_as (lent_table a.table a.node-words.now a.target-words.now) a.area.now k.copy-table.new.1.1.1.0 k.copy-table.result m q k.copy-table.ensures
+    made_as (lent_table k.args.table k.args.node_words.now k.args.target_words.now) k.args.area.now k.copy_table.new.area k.copy_table.result m q k.copy_table.ensures
 
 pub returns-in-Damaged : goal.returns-in-Damaged
 returns-in-Damaged c = told (goal.at.returns-in-Damaged c).After-copy_table Damaged c.in-Damaged.is
