@@ -1,8 +1,9 @@
 // The nodes of a table in a lent area of words: looking up a child, making one.
 #![tactic(auto)]
+
 ghost use Rattle.std.specs.Prelude.{◌≡◌, ℕ, ◌+◌, ◌*◌, ◌/◌, ◌<◌, ◌≤◌, ◌^◌, max, length};
 ghost use Rattle.sublist_tree.specs.Tree.{star, lit};
-ghost use Rattle.sublist_area_rules.specs.Words.{node_words, hash_is, by_hash, seek, literal_child, star_child};
+ghost use Rattle.sublist_area_rules.specs.Words.{words_per_node, hash_is, by_hash, seek, literal_child, star_child};
 ghost use Rattle.sublist_area_rules.specs.Growing.{cleared, added, placed, child_or_new, rooted};
 
 use sublist_area_rules::{Child, Placed};
@@ -32,7 +33,7 @@ pub fn larger(a: usize, b: usize) -> usize
 
 // Whether node `at` has the hash.
 fn has_hash(node_words: &[u32], at: usize, hash: u64) -> bool
-    requires { at * node_words + node_words ≤ length node_words.now }
+    requires { at * words_per_node + words_per_node ≤ length node_words.now }
     ensures { result ≡ hash_is node_words.now at hash }
 {
     if node_words[at * NODE_WORDS] != (hash % WORD) as u32 {
@@ -43,7 +44,7 @@ fn has_hash(node_words: &[u32], at: usize, hash: u64) -> bool
 
 // The sibling with the hash, from a link on.
 fn seek_sibling(node_words: &[u32], count: usize, start: usize, hash: u64) -> Child
-    requires { (count ≤ length node_words.now / node_words) × (start < count * node_words) }
+    requires { (count ≤ length node_words.now / words_per_node) × (start < count * words_per_node) }
     ensures { result ≡ seek (by_hash node_words.now hash) node_words.now count hash count start }
 {
     let mut link = start;
@@ -106,7 +107,7 @@ pub fn star_child(node_words: &[u32], count: usize, node: u32) -> Child
 
 // All words of a node become 0.
 fn clear_node(node_words: &mut [u32], node: usize)
-    requires { node * node_words + node_words ≤ length node_words.old }
+    requires { node * words_per_node + words_per_node ≤ length node_words.old }
     ensures { node_words.new ≡ cleared node_words.old node }
 {
     let at = node * NODE_WORDS;
@@ -119,8 +120,8 @@ fn clear_node(node_words: &mut [u32], node: usize)
 
 // Writes node `count` below a node, and its number into a word.
 fn add_node(node_words: &mut [u32], count: usize, link: usize, hash: u64, parent: u32)
-    requires { (count * node_words + node_words ≤ length node_words.old)
-        × (link < count * node_words)
+    requires { (count * words_per_node + words_per_node ≤ length node_words.old)
+        × (link < count * words_per_node)
         × (count < 2 ^ 32) }
     ensures { node_words.new ≡ added node_words.old count link hash parent }
 {
@@ -145,7 +146,7 @@ pub fn plant(node_words: &mut [u32]) -> Placed
 
 // A new child where the lookup found none.
 fn grow(node_words: &mut [u32], count: usize, child: Child, hash: u64, parent: u32) -> Placed
-    requires { (link : ℕ) → child ≡ Child.Missing link → link < count * node_words }
+    requires { (link : ℕ) → child ≡ Child.Missing link → link < count * words_per_node }
     ensures { (result, node_words.new) ≡ placed child node_words.old count parent (lit hash) }
 {
     match child {

@@ -13,8 +13,8 @@ use Rattle.sublist_area_rules.specs.declared.Child.TheVariants.{Node, Missing, D
 use Rattle.sublist_tree.specs.Tree.{Key, star, lit}
 
 -- how many words a node takes
-abbrev pub node_words : ℕ
-node_words = 16
+abbrev pub words_per_node : ℕ
+words_per_node = 16
 
 -- word f of node i
 abbrev pub word : List ℕ → ℕ → ℕ → ℕ
