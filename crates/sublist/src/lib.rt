@@ -6,7 +6,7 @@ ghost use Rattle.subject_rules.specs.Text.{tokens};
 ghost use Rattle.subject.specs.Answers.{parsed};
 ghost use Rattle.subject_rules.specs.Fnv.{fnv};
 ghost use Rattle.sublist_tree.specs.Tree.{line_of};
-ghost use Rattle.sublist_area_rules.specs.Words.{node_words, word, token_key};
+ghost use Rattle.sublist_area_rules.specs.Words.{words_per_node, word, token_key};
 ghost use Rattle.sublist_area_rules.specs.Growing.{child_or_new};
 ghost use Rattle.sublist.specs.Answers.{built};
 ghost use Rattle.sublist_entries.specs.Entries.{max_entries, lines_of};
@@ -85,7 +85,7 @@ fn sum(a: u32, b: u32) -> usize
 
 // A word of a node.
 fn node_word(node_words: &[u32], node: usize, field: usize) -> u32
-    requires { (node * node_words + node_words ≤ length node_words.now) × (field < node_words) }
+    requires { (node * words_per_node + words_per_node ≤ length node_words.now) × (field < words_per_node) }
     ensures { result ≡ word node_words.now node field }
 {
     node_words[node * NODE_WORDS + field]
@@ -93,8 +93,8 @@ fn node_word(node_words: &[u32], node: usize, field: usize) -> u32
 
 // A word of a node gets a value.
 fn set_word(node_words: &mut [u32], node: usize, field: usize, value: u32)
-    requires { (node * node_words + node_words ≤ length node_words.old) × (field < node_words) }
-    ensures { node_words.new ≡ slice_set node_words.old (node * node_words + field) value }
+    requires { (node * words_per_node + words_per_node ≤ length node_words.old) × (field < words_per_node) }
+    ensures { node_words.new ≡ slice_set node_words.old (node * words_per_node + field) value }
 {
     node_words[node * NODE_WORDS + field] = value;
 }
@@ -157,7 +157,7 @@ fn token_or_new(node_words: &mut [u32], count: usize, node: u32, token: &[u8]) -
 
 // A pattern's run of tokens is put in from the root.
 fn insert_pattern(node_words: &mut [u32], nodes: usize, text: &[u8]) -> Ended
-    requires { (0 < nodes) × (nodes * node_words ≤ length node_words.old) }
+    requires { (0 < nodes) × (nodes * words_per_node ≤ length node_words.old) }
     ensures { (ended_as result node_words.new
         ≡ run_in (Placed.At 0 nodes, node_words.old) (line_of fnv (tokens text.now) 0))
         × EndFits result (length node_words.old) }
@@ -198,21 +198,21 @@ fn insert_pattern(node_words: &mut [u32], nodes: usize, text: &[u8]) -> Ended
 
 // The word that counts a node's exact or `>` targets.
 fn count_word(tail: bool) -> usize
-    ensures { (result ≡ count_word tail) × (result < node_words) }
+    ensures { (result ≡ count_word tail) × (result < words_per_node) }
 {
     if tail { 7 } else { 5 }
 }
 
 // The word where a node's exact or `>` targets start.
 fn start_word(tail: bool) -> usize
-    ensures { (result ≡ start_word tail) × (result < node_words) }
+    ensures { (result ≡ start_word tail) × (result < words_per_node) }
 {
     if tail { 6 } else { 4 }
 }
 
 // One target more of a node.
 fn count_end(node_words: &mut [u32], node: usize, tail: bool)
-    requires { node * node_words + node_words ≤ length node_words.old }
+    requires { node * words_per_node + words_per_node ≤ length node_words.old }
     ensures { node_words.new ≡ counted node_words.old node tail }
 {
     let field = count_word(tail);
@@ -222,7 +222,7 @@ fn count_end(node_words: &mut [u32], node: usize, tail: bool)
 
 // A pattern's run of tokens is put in, and its end counts it.
 fn insert_line(node_words: &mut [u32], nodes: usize, text: &[u8]) -> Ended
-    requires { (0 < nodes) × (nodes * node_words ≤ length node_words.old) }
+    requires { (0 < nodes) × (nodes * words_per_node ≤ length node_words.old) }
     ensures { (ended_as result node_words.new
         ≡ line_in (growth nodes node_words.old []) (line_of fnv (tokens text.now) 0))
         × EndFits result (length node_words.old) }
@@ -254,7 +254,7 @@ fn insert_entries(
 ) -> Grown
     requires { (entry_numbers * count ≤ length words.now)
         × (count ≤ length ends.old)
-        × (node_words ≤ length node_words.old)
+        × (words_per_node ≤ length node_words.old)
         × (bad_entries store.now 0 (unflat count words.now) ≡ none) }
     ensures { (grown_as result node_words.new (ends_of count ends.new)
         ≡ lines_in (growth 1 node_words.old [])
@@ -412,7 +412,7 @@ fn worst_of(star: u32, literal: u32) -> usize
 
 // The worst case of a node; more than a word holds is the largest word.
 fn node_worst(node_words: &[u32], i: usize) -> u32
-    requires { i * node_words + node_words ≤ length node_words.now }
+    requires { i * words_per_node + words_per_node ≤ length node_words.now }
     ensures { result ≡ node_worst node_words.now i }
 {
     let worst = worst_of(node_word(node_words, i, 4), node_word(node_words, i, 6));
@@ -424,7 +424,7 @@ fn node_worst(node_words: &[u32], i: usize) -> u32
 
 // A node's parent is told its worst case.
 fn tell(node_words: &mut [u32], i: usize)
-    requires { i * node_words + node_words ≤ length node_words.old }
+    requires { i * words_per_node + words_per_node ≤ length node_words.old }
     ensures { node_words.new
         ≡ told node_words.old i (word node_words.old i 12) }
 {
@@ -443,7 +443,7 @@ fn tell(node_words: &mut [u32], i: usize)
 
 // Second pass: the worst case of each node, told to its parent; the answer is the root's.
 fn settle(node_words: &mut [u32], count: usize) -> usize
-    requires { (0 < count) × (count * node_words ≤ length node_words.old) }
+    requires { (0 < count) × (count * words_per_node ≤ length node_words.old) }
     ensures { (node_words.new ≡ settled node_words.old (count - 1))
         × (result ≡ root_worst node_words.new) }
 {
@@ -457,7 +457,7 @@ fn settle(node_words: &mut [u32], count: usize) -> usize
 
 // Where the targets of a node start, exact ones before `>` ones; its counts start again at 0.
 fn lay_node(node_words: &mut [u32], i: usize, from: u32)
-    requires { i * node_words + node_words ≤ length node_words.old }
+    requires { i * words_per_node + words_per_node ≤ length node_words.old }
     ensures { node_words.new ≡ laid_at node_words.old i from }
 {
     let tails = std::num::wrapping_add_u32(from, node_word(node_words, i, 5));
@@ -476,7 +476,7 @@ fn after(from: u32, exact: u32, tails: u32) -> u32
 
 // Third pass: the nodes' targets, one node behind the other.
 fn lay(node_words: &mut [u32], count: usize)
-    requires { count * node_words ≤ length node_words.old }
+    requires { count * words_per_node ≤ length node_words.old }
     ensures { node_words.new ≡ laid node_words.old 0 count 0 }
 {
     let mut i = 0;
@@ -511,7 +511,7 @@ fn put_target(
     tail: bool,
     target: u32,
 )
-    requires { node * node_words + node_words ≤ length node_words.old }
+    requires { node * words_per_node + words_per_node ≤ length node_words.old }
     ensures { filling node_words.new target_words.new
         ≡ filled_by (filling node_words.old target_words.old) (end node tail) target }
 {
@@ -531,7 +531,7 @@ fn put_targets(
 )
     requires { (entry_numbers * count ≤ length words.now)
         × (count ≤ length ends.now)
-        × EndBelow count ends.now (length node_words.old / node_words) }
+        × EndBelow count ends.now (length node_words.old / words_per_node) }
     ensures { filling node_words.new target_words.new
         ≡ filled (filling node_words.old target_words.old)
         (ends_of count ends.now) (targets_of (unflat count words.now)) }
@@ -558,8 +558,8 @@ fn finish(
     requires { (entry_numbers * count ≤ length words.now)
         × (count ≤ length ends.now)
         × (0 < total)
-        × (total * node_words ≤ length node_words.old)
-        × EndBelow count ends.now (length node_words.old / node_words) }
+        × (total * words_per_node ≤ length node_words.old)
+        × EndBelow count ends.now (length node_words.old / words_per_node) }
     ensures { built result node_words.new target_words.new
         ≡ finish_by count 0 (targets_of (unflat count words.now)) target_words.old generation
         (growth total node_words.old (ends_of count ends.now)) }
