@@ -37,7 +37,7 @@ module _ (subject : List ℕ) (place : ℕ) (r : Token) (e : r ≡ token_at subj
     pub token_bounds : (start ≤ end) × (end ≤ length subject) × (place < next) × (next ≤ length subject + 1)
     token_bounds =
         let t = part-found subject place start end next r e f in
-        (t.Within.0, t.Within.1, t.moves.0, t.moves.1)
+        (t.within.0, t.within.1, t.moves.0, t.moves.1)
 
     pub hashes_next : (h : ℕ) → h ≡ fnv (part subject start (end - start)) → map fnv (tokens_from subject place) ≡ h ∷ map fnv (tokens_from subject next)
     hashes_next h g = rw (g, (part-found subject place start end next r e f).left)

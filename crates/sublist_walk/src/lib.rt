@@ -1,5 +1,6 @@
 // The walk of a subject over a table, and the match. A table is lent as counts and words, any counts and any words.
 #![tactic(auto)]
+
 ghost use Rattle.std.specs.Prelude.{◌≡◌, [], ◌+◌, ◌-◌, ◌/◌, ◌≤◌, ◌<◌, ◌^◌, length, take, get_or};
 ghost use Rattle.std.proofs.lemmas.List.Edits.{sets};
 ghost use Rattle.subject_rules.specs.Answers.{answer, when_accepted};

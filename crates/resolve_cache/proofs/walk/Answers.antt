@@ -26,7 +26,7 @@ told k m q =
     ∙ k.match_parsed.ensures
     ∙ parsed_match k.args.snapshot k.args.area.now k.args.subject.now k.args.out.now _ k.requires.1.1
 
--- k.args refusal
+-- a refusal
 
 refused : (k : After-match_parsed) (m : SnapshotMatch) → k.match_parsed.result ≡ m → ((x : Answer) → snapshot_answer m ≡ when_accepted (snapshot_answer m) x)
     → ◌≡◌ {A = Resolved}
@@ -36,7 +36,7 @@ refused k m q r =
     walk_refused k.args.cache (lent k.args.stamps.now k.args.keys.now k.args.kept.now) k.args.snapshot k.args.area.now k.args.subject.now k.args.out.now
     (snapshot_answer m) k.match_parsed.new.out r (told c m q)
 
--- k.args list
+-- a list
 
 listed : (x : In-Listed) → Lists x.args.cache (lent x.args.stamps.now x.args.keys.now x.args.kept.now) x.args.snapshot x.args.area.now x.args.subject.now x.args.out.now
     x.in-Listed.count x.match_parsed.new.out

@@ -1,4 +1,5 @@
 -- `sublist_walk::match_parsed` meets its contract. Assumes nothing.
+use borrow.Enum.Refused.{opened}
 use native.Mathlib.Omega.{arith}
 use mathlib.Core.Path.{sym, ◌∙◌}
 use borrow.Author.Tests.{not-true, not-false}
@@ -27,4 +28,4 @@ returns-in-Wide c =
 pub returns : goal.returns
 returns c =
     parsed-counted c.args.nodes c.args.targets c.args.node_words.now c.args.target_words.now c.args.subject.now c.args.out.now c.if-subject-gt-MAX_TEXT.false (sym c.if-not-counts_fit.false ∙ c.counts_fit.ensures) _
-    (narrow_answers 1024 (omega arith) c.args.nodes c.args.targets c.args.node_words.now c.args.target_words.now c.args.subject.now c.args.out.now c.match_narrow-tried.result _ c.match_narrow-tried.ensures c.in_default.keys2 c.settle.result c.settle.ensures)
+    (narrow_answers 1024 (omega arith) c.args.nodes c.args.targets c.args.node_words.now c.args.target_words.now c.args.subject.now c.args.out.now c.match_narrow-tried.result _ c.match_narrow-tried.ensures (opened c.in_default.in_default-own.keys2) c.settle.result c.settle.ensures)

@@ -26,7 +26,7 @@ told k m q =
     match_says k.args.snapshot k.args.area.now k.args.subject.now (0 ∷ []) k.match_parsed.new.out k.requires.0 k.requires.1
     k.match_parsed.result m k.match_parsed.ensures q
 
--- its list is at the (goal.at.None c).Start of the output, and the verdict on it is the subject's
+-- its list is at the start of the output, and the verdict on it is the subject's
 
 listed : (x : In-Listed) → (x.in-Listed.count ≤ length x.match_parsed.new.out)
     × (Verdict (single_home (take x.in-Listed.count x.match_parsed.new.out)) ≡ judgement (walk_of x.args.snapshot x.args.area.now x.args.subject.now))

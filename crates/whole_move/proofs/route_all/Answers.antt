@@ -1,4 +1,5 @@
 -- `whole_move::route_all` meets its contract. Assumes nothing.
+use borrow.Enum.Refused.{opened}
 use Prim.Native.Nat.{◌≤◌}
 use native.Mathlib.Omega.{arith}
 use mathlib.Core.Path.{◌≡◌, sym, ◌∙◌}
@@ -33,7 +34,7 @@ route_subjects-routed-requires c = (stands (goal.at.route_subjects-routed-requir
 pub returns-in_default : goal.returns-in_default
 returns-in_default c =
     all_ended c.args.snapshot c.args.area.now c.args.bytes.now (spans_in c.args.spans.now) c.args.out.now (stands (goal.at.returns-in_default c).Else-not-stands_in)
-    c.route_subjects-routed.result c.route_subjects-routed.new.targets c.route_subjects-routed.ensures.0 c.in_default.keys2
+    c.route_subjects-routed.result c.route_subjects-routed.new.targets c.route_subjects-routed.ensures.0 (opened c.in_default.in_default-own.keys2)
 
 pub returns-then-out-count : goal.returns-then-out-count
 returns-then-out-count c =

@@ -1,3 +1,4 @@
+use borrow.Enum.Refused.{opened}
 use Prim.Native.Nat.{◌+◌, ◌*◌, ◌≤◌}
 use native.Mathlib.Omega.{arith}
 use mathlib.Core.Path.{refl, ◌∙◌}
@@ -38,7 +39,7 @@ returns-in_default c = (
 pub returns-in_default-resolution : goal.returns-in_default-resolution
 returns-in_default-resolution c = (
   routes-stopped (walk_of c.args.snapshot c.args.area.now) c.args.bytes.now c.args.spans.now c.loop-i.targets c.loop-i.i _ c.loop-i.invariant.0 c.loop-i-test.true
-      c.judge.result c.judge.ensures c.in-Verdict.resolution c.in-Verdict.is c.in_default-resolution.keys2,
+      c.judge.result c.judge.ensures c.in-Verdict.resolution c.in-Verdict.is (opened c.in_default-resolution.in_default-resolution-own.keys2),
   tt,
 )
 
