@@ -1,11 +1,9 @@
-pub mod Again
 pub mod Alike
 pub mod Checks
 pub mod Cutting
 pub mod Filled
 pub mod Lines
 pub mod Listed
-pub mod Local
 pub mod Needed
 pub mod Numbered
 pub mod OneMore

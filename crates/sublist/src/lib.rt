@@ -1,5 +1,6 @@
 // The table that a build makes of a list of entries. A port of IronBus's SublistBuilder, its `build`.
 #![tactic(auto)]
+
 ghost use Rattle.std.specs.Prelude.{◌≡◌, ℕ, ◌+◌, ◌-◌, ◌*◌, ◌/◌, ◌%◌, ◌<◌, ◌≤◌, min, max, [], ◌++◌, length, take, drop, slice_set};
 ghost use Rattle.std.proofs.Math.Option.{none};
 ghost use Rattle.subject_rules.specs.Text.{tokens};

@@ -16,16 +16,14 @@ use Rattle.binding.proofs.resolve_single_home.Goals as goal
 use Rattle.binding.proofs.resolve_single_home.Goals.{After-match_into, In-Listed}
 
 -- what the match answered
-
 told : (k : After-match_into) (m : SnapshotMatch) → k.match_into.result ≡ m
     → outcome (snapshot_answer m) k.match_into.new.out ≡ match_in k.args.snapshot k.args.area.now k.args.subject.now k.args.out.now
 told k m q = ap (λ x. outcome (snapshot_answer x) k.match_into.new.out) (sym q) ∙ k.match_into.ensures
 
 -- its list lies within the output
-
 inside : (x : In-Listed) → x.in-Listed.count ≤ length x.match_into.new.out
 inside x =
-    let h = match_inside x.args.snapshot x.args.area.now x.args.subject.now x.args.out.now x.match_into.new.out x.in-Listed.count x.in-Listed.peak x.in-Listed.generation.0 (told (goal.at.None c).After-match_into (Listed x.in-Listed.count x.in-Listed.peak x.in-Listed.generation) x.in-Listed.is) in
+    let h = match_inside x.args.snapshot x.args.area.now x.args.subject.now x.args.out.now x.match_into.new.out x.in-Listed.count x.in-Listed.peak x.in-Listed.generation.0 (told (goal.at.None x).After-match_into (Listed x.in-Listed.count x.in-Listed.peak x.in-Listed.generation) x.in-Listed.is) in
     omega (arith, h, x.match_into.auto.out)
 
 pub slice_bounds-single_home-end : goal.slice_bounds-single_home-end

@@ -7,7 +7,6 @@ use Rattle.load_maker_rules.specs.Load.{pattern_byte}
 use Rattle.load_maker.proofs.pattern_byte.Goals as goal
 
 -- from 2 on, letters
-
 letter-is : (last : Bool) (n : ℕ) → (n ≡ 0 → ⊥) → (n ≡ 1 → ⊥) → 0x61 + (n - 2) ≡ pattern_byte last n
 letter-is last zero z o = absurd (z refl)
 letter-is last (suc zero) z o = absurd (o refl)

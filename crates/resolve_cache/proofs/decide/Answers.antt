@@ -11,17 +11,14 @@ use Rattle.resolve_cache.proofs.decide.Goals as goal
 use Rattle.resolve_cache.proofs.decide.Goals.{After-adopt-current, Else-is_bad, Else-is_short}
 
 -- 17 does not apply
-
 roomy : (k : Else-is_short) → short k.args.cache.capacity (lent k.args.stamps.now k.args.keys.now k.args.kept.now) ≡ false
 roomy k = sym k.is_short.ensures ∙ k.if-is_short.false
 
 -- nor does 18
-
 good : (k : Else-is_bad) → bad k.args.cache (lent k.args.stamps.now k.args.keys.now k.args.kept.now) ≡ false
 good k = sym k.is_bad.ensures ∙ k.if-is_bad.false
 
 -- the cache on the standing table's generation
-
 on : (k : After-adopt-current) → k.adopt-current.result ≡ adopt k.args.snapshot.generation k.args.cache
 on k =
     k.adopt-current.ensures ∙ ap (λ g. adopt g k.args.cache) k.generation.ensures

@@ -8,7 +8,6 @@ use Rattle.resolve_cache.proofs.keep_list.Goals as goal
 use Rattle.resolve_cache.proofs.keep_list.Goals.{Else-not-qualifies}
 
 -- the list is to be kept
-
 fits : (x : Else-not-qualifies) → qualifies x.args.subject.now x.args.list.now ≡ true
 fits x = sym x.qualifies.ensures ∙ x.if-not-qualifies.false
 

@@ -11,19 +11,17 @@ use Rattle.resolve_cache.proofs.look_up.Goals as goal
 use Rattle.resolve_cache.proofs.look_up.Goals.{After-find}
 
 -- the slot that was found is one of them
-
 found : (k : After-find) (i : ℕ) → k.find.result ≡ At i
     → find_from k.args.capacity k.args.keys.now k.args.subject.now 0 k.args.n ≡ some i
 found k i q = sym k.find.ensures ∙ ap slot_of q
 
 inside : (k : After-find) (i : ℕ) → k.find.result ≡ At i → i < k.args.n
 inside k i q =
-    omega (arith, (find-sound k.args.capacity k.args.keys.now k.args.subject.now 0 k.args.n i (found c i q)).below)
+    omega (arith, (find-sound k.args.capacity k.args.keys.now k.args.subject.now 0 k.args.n i (found k i q)).below)
 
 -- and it is not bad
-
 short : (k : After-find) (i : ℕ) → k.find.result ≡ At i → key_length k.args.capacity k.args.keys.now i ≤ 256
-short k i q = (k.requires.1 i (inside c i q)).0
+short k i q = (k.requires.1 i (inside k i q)).0
 
 pub overflow_add-count : goal.overflow_add-count
 overflow_add-count c = let i = inside (goal.at.overflow_add-count c).After-find c.in-At.slot c.in-At.is in omega arith

@@ -8,7 +8,6 @@ use Rattle.resolve_cache.proofs.resolve.Goals as goal
 use Rattle.resolve_cache.proofs.resolve.Goals.{After-decide}
 
 -- what was decided
-
 told : (k : After-decide) (d : Decision) → k.decide.result ≡ d
     → Decides k.args.cache (lent k.args.stamps.now k.args.keys.now k.args.kept.now) k.args.snapshot k.args.area.now k.args.subject.now k.args.out.now d
 told k d q =

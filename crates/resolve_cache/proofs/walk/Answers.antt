@@ -18,7 +18,6 @@ use Rattle.resolve_cache.proofs.walk.Goals as goal
 use Rattle.resolve_cache.proofs.walk.Goals.{After-adopt-current, After-match_parsed, In-Listed}
 
 -- what the match answered
-
 told : (k : After-match_parsed) (m : SnapshotMatch) → k.match_parsed.result ≡ m
     → outcome (snapshot_answer m) k.match_parsed.new.out ≡ match_in k.args.snapshot k.args.area.now k.args.subject.now k.args.out.now
 told k m q =
@@ -27,33 +26,29 @@ told k m q =
     ∙ parsed_match k.args.snapshot k.args.area.now k.args.subject.now k.args.out.now _ k.requires.1.1
 
 -- a refusal
-
 refused : (k : After-match_parsed) (m : SnapshotMatch) → k.match_parsed.result ≡ m → ((x : Answer) → snapshot_answer m ≡ when_accepted (snapshot_answer m) x)
     → ◌≡◌ {A = Resolved}
     (record { says = snapshot_answer m; cache = k.args.cache; area = lent k.args.stamps.now k.args.keys.now k.args.kept.now; out = k.match_parsed.new.out })
     (walking k.args.cache (lent k.args.stamps.now k.args.keys.now k.args.kept.now) k.args.snapshot k.args.area.now k.args.subject.now k.args.out.now)
 refused k m q r =
     walk_refused k.args.cache (lent k.args.stamps.now k.args.keys.now k.args.kept.now) k.args.snapshot k.args.area.now k.args.subject.now k.args.out.now
-    (snapshot_answer m) k.match_parsed.new.out r (told c m q)
+    (snapshot_answer m) k.match_parsed.new.out r (told k m q)
 
 -- a list
-
 listed : (x : In-Listed) → Lists x.args.cache (lent x.args.stamps.now x.args.keys.now x.args.kept.now) x.args.snapshot x.args.area.now x.args.subject.now x.args.out.now
     x.in-Listed.count x.match_parsed.new.out
 listed x =
     walk_lists x.args.cache (lent x.args.stamps.now x.args.keys.now x.args.kept.now) x.args.snapshot x.args.area.now x.args.subject.now x.args.out.now
     x.in-Listed.count x.in-Listed.peak x.in-Listed.generation.0 x.match_parsed.new.out
-    (told (goal.at.None c).After-match_parsed (Listed x.in-Listed.count x.in-Listed.peak x.in-Listed.generation) x.in-Listed.is)
+    (told (goal.at.None x).After-match_parsed (Listed x.in-Listed.count x.in-Listed.peak x.in-Listed.generation) x.in-Listed.is)
 
 -- so many places are there
-
 inside : (x : In-Listed) → x.in-Listed.count ≤ length x.match_parsed.new.out
 inside x =
-    let l = listed c in
+    let l = listed x in
     omega (arith, l.counted, l.fits, x.match_parsed.auto.out)
 
 -- the cache on the standing table's generation
-
 on : (k : After-adopt-current) → k.adopt-current.result ≡ adopt k.args.snapshot.generation k.args.cache
 on k =
     k.adopt-current.ensures ∙ ap (λ g. adopt g k.args.cache) k.generation.ensures

@@ -19,7 +19,6 @@ inside : (d at s i : ℕ) → s ≤ d - at → i < s → at + i < d
 inside d at s i h k = omega (arith, h, k)
 
 -- the place of the next byte
-
 within : (d l : List ℕ) (at : ℕ) (s : List ℕ) (i : ℕ) → l ≡ paste d at s i → length s ≤ length d - at → i < length s → at + i < length l
 within d l at s i e h k = subst (λ (m : ℕ). at + i < m) (sym (ap length e ∙ pasted_length d at s i (omega (arith, k)) h)) (inside (length d) at (length s) i h k)
 

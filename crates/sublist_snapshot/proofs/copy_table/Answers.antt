@@ -10,12 +10,11 @@ use Rattle.sublist_snapshot.proofs.copy_table.Goals as goal
 use Rattle.sublist_snapshot.proofs.copy_table.Goals.{Else-not-counts_fit}
 
 -- the table's counts are within its areas
-
 counted : (k : Else-not-counts_fit) → counts_fit k.args.table.nodes k.args.table.targets k.args.node_words.now k.args.target_words.now ≡ true
 counted k = sym k.counts_fit.ensures ∙ k.if-not-counts_fit.false
 
 fits : (k : Else-not-counts_fit) → Fit k.args.table.nodes k.args.table.targets k.args.node_words.now k.args.target_words.now
-fits k = counts_fit_lem k.args.table.nodes k.args.table.targets k.args.node_words.now k.args.target_words.now (counted c)
+fits k = counts_fit_lem k.args.table.nodes k.args.table.targets k.args.node_words.now k.args.target_words.now (counted k)
 
 pub returns-then-not-counts_fit : goal.returns-then-not-counts_fit
 returns-then-not-counts_fit c = rw (sym c.counts_fit.ensures ∙ c.if-not-counts_fit.true)

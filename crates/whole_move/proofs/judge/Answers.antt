@@ -18,7 +18,6 @@ use Rattle.whole_move.proofs.judge.Goals as goal
 use Rattle.whole_move.proofs.judge.Goals.{After-match_parsed, In-Listed}
 
 -- what the match answered
-
 told : (k : After-match_parsed) (m : SnapshotMatch) → k.match_parsed.result ≡ m
     → outcome (snapshot_answer m) k.match_parsed.new.out
     ≡ with_generation k.args.snapshot.generation (written (walk_of k.args.snapshot k.args.area.now k.args.subject.now) (0 ∷ []))
@@ -27,12 +26,11 @@ told k m q =
     k.match_parsed.result m k.match_parsed.ensures q
 
 -- its list is at the start of the output, and the verdict on it is the subject's
-
 listed : (x : In-Listed) → (x.in-Listed.count ≤ length x.match_parsed.new.out)
     × (Verdict (single_home (take x.in-Listed.count x.match_parsed.new.out)) ≡ judgement (walk_of x.args.snapshot x.args.area.now x.args.subject.now))
 listed x =
     judged-listed x.args.snapshot.generation (0 ∷ []) x.match_parsed.new.out (walk_of x.args.snapshot x.args.area.now x.args.subject.now)
-    x.in-Listed.count x.in-Listed.peak x.in-Listed.generation.0 (told (goal.at.None c).After-match_parsed (Listed x.in-Listed.count x.in-Listed.peak x.in-Listed.generation) x.in-Listed.is)
+    x.in-Listed.count x.in-Listed.peak x.in-Listed.generation.0 (told (goal.at.None x).After-match_parsed (Listed x.in-Listed.count x.in-Listed.peak x.in-Listed.generation) x.in-Listed.is)
 
 pub slice_bounds-one-end : goal.slice_bounds-one-end
 slice_bounds-one-end c = (listed (goal.at.slice_bounds-one-end c).In-Listed).0

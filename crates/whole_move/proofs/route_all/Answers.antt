@@ -14,12 +14,10 @@ use Rattle.whole_move.proofs.route_all.Goals as goal
 use Rattle.whole_move.proofs.route_all.Goals.{Else-not-stands_in, In-Routed}
 
 -- the table's counts fit
-
 stands : (k : Else-not-stands_in) → stands_in k.args.snapshot k.args.area.now ≡ true
 stands k = sym k.stands_in.ensures ∙ k.if-not-stands_in.false
 
 -- no more targets are counted than were gathered
-
 counted : (x : In-Routed) → x.in-Routed.count ≤ length x.route_subjects-routed.new.targets
 counted x = rw x.in-Routed.is at x.route_subjects-routed.ensures.1
 

@@ -13,12 +13,10 @@ use Rattle.whole_move.proofs.whole_move.Goals as goal
 use Rattle.whole_move.proofs.whole_move.Goals.{After-check_subjects, Else-spans-gt-MAX_MOVE}
 
 -- at most 64 subjects
-
 few : (k : Else-spans-gt-MAX_MOVE) → length (spans_in k.args.spans.now) ≤ 64
 few k = omega (arith, k.if-spans-gt-MAX_MOVE.false, spans_length k.args.spans.now)
 
 -- what the check of them said
-
 told : (k : After-check_subjects) (m : SubjectCheck) → k.check_subjects.result ≡ m
     → checked m ≡ bad_subjects k.args.bytes.now 0 (spans_in k.args.spans.now)
 told k m q = ap checked (sym q) ∙ k.check_subjects.ensures
