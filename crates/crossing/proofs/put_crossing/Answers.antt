@@ -7,6 +7,7 @@ use Rattle.crossing.proofs.Turns.{first-used, second-used, first_tail, second-ta
 use Rattle.crossing.proofs.put_crossing.Goals as goal
 use Rattle.crossing.proofs.put_crossing.Goals.{In-Part, In-Part-token_at}
 
+-- the first pattern's next token, and the second's
 first-at : (t : In-Part)
     → Found t.args.first.now t.loop-p_start.p t.in-Part.p_start t.in-Part.p_end t.in-Part.p_next
 first-at t = part-found _ _ _ _ _ _ t.token_at.ensures t.in-Part.is
@@ -59,4 +60,4 @@ loop-p_start-smaller c =
 pub loop-p_start-preserved : goal.loop-p_start-preserved
 loop-p_start-preserved c =
     let g = both_go _ _ _ _ _ _ c.loop-p_start.invariant.0 _ _ (first-at (goal.at.loop-p_start-preserved c).In-Part).left _ _ (second_at (goal.at.loop-p_start-preserved c).In-Part-token_at).left _ c.is_tail.ensures c.if-is_tail.false _ c.is_tail-in-loop-p_start.ensures c.if-is_tail-2.false _ _ c.put_common.ensures _ c.in-Upto.is in
-    (g.0, g.1, omega (arith, c.loop-p_start.invariant.2, c.out-in-loop-p_start-1.given))
+    (g.0, g.1, search rules)

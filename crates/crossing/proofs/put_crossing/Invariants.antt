@@ -17,5 +17,3 @@ invariant-loop-p_start l =
 abbrev pub decreases-loop-p_start : goal.decreases-loop-p_start
 decreases-loop-p_start l =
     length l.first + 1 - l.p
-
--- the l.first pattern's next token, and the second's

@@ -7,6 +7,7 @@ use Rattle.crossing.proofs.Turns.{rest-used, rest-stops, rest_goes}
 use Rattle.crossing.proofs.put_rest.Goals as goal
 use Rattle.crossing.proofs.put_rest.Goals.{In-Part}
 
+-- the next token
 next-at : (t : In-Part)
     → Found t.args.text.now t.loop-start.p t.in-Part.start t.in-Part.end t.in-Part.next
 next-at t = part-found _ _ _ _ _ _ t.token_at.ensures t.in-Part.is

@@ -18,5 +18,3 @@ invariant-loop-start l =
 abbrev pub decreases-loop-start : goal.decreases-loop-start
 decreases-loop-start l =
     length l.text + 1 - l.p
-
--- the next token
