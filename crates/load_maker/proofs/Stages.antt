@@ -10,7 +10,7 @@ use Rattle.subject_rules.specs.Text.{tokens, joined}
 use Rattle.subject_rules.specs.Answers.{answer}
 use Rattle.subject_rules.proofs.Stores.{sets_over}
 use Rattle.load_maker_rules.specs.Xorshift.{draw, draws}
-use Rattle.load_maker_rules.specs.Load.{count, made_tokens, made_text, made, make}
+use Rattle.load_maker_rules.specs.Load.{made_tokens, made_text, made, make}
 use Rattle.load_maker_rules.proofs.Making.{made-count, made-length}
 use Rattle.load_maker_rules.proofs.Exactly.{short-says, makes-says}
 

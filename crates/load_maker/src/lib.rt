@@ -1,6 +1,7 @@
 // The load maker: patterns and subjects that are the same on every bench. Not in the original.
 // The count of tokens is drawn on a copy of the state, before the output is measured: a refusal gives back the one lent.
 #![tactic(auto)]
+
 ghost use Rattle.std.specs.Prelude.{◌≡◌, ◌+◌, ◌*◌, ◌≤◌, true, false, length};
 ghost use Rattle.std.proofs.lemmas.List.Edits.{sets};
 ghost use Rattle.subject_rules.specs.Text.{joined};

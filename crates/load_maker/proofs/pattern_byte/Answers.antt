@@ -13,4 +13,4 @@ letter-is last (suc zero) z o = absurd (o refl)
 letter-is last (suc (suc n)) z o = omega arith
 
 pub returns : goal.returns
-returns c = letter-is c.args.new c.args.number c.if-number-eq0.false c.if-number-eq1.false
+returns c = letter-is c.args.last c.args.number c.if-number-eq0.false c.if-number-eq1.false
