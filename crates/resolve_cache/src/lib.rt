@@ -214,7 +214,7 @@ fn any_marked(keys: &[u8], lows: usize, highs: usize, sought: Mark) -> bool
 
 // Whether a slot keeps the list of a subject that has this mark: the same mark and the same bytes.
 fn keeps(keys: &[u8], capacity: usize, i: usize, sought: Mark, subject: &[u8]) -> bool
-    requires i_lt_capacity { (i < capacity)
+    requires inside { (i < capacity)
         × (capacity ≤ 1024)
         × (260 * capacity ≤ length keys.now)
         × (key_length capacity keys.now i ≤ 256) }
@@ -242,7 +242,7 @@ fn find_between(
     sought: Mark,
     subject: &[u8],
 ) -> Slot
-    requires from_le_to { (from ≤ to)
+    requires span { (from ≤ to)
         × (to ≤ capacity)
         × (capacity ≤ 1024)
         × (260 * capacity ≤ length keys.now) }
@@ -269,7 +269,7 @@ fn find_in_run(
     sought: Mark,
     subject: &[u8],
 ) -> Slot
-    requires from_lt_to { (from < to)
+    requires span { (from < to)
         × (to ≤ from + 32)
         × (to ≤ capacity)
         × (capacity ≤ 1024)
@@ -299,7 +299,7 @@ fn run_end(from: usize, n: usize) -> usize
 
 // The first of n slots that keeps the list of a subject, run by run.
 fn find(keys: &[u8], capacity: usize, n: usize, subject: &[u8]) -> Slot
-    requires n_le_capacity { (n ≤ capacity)
+    requires slots { (n ≤ capacity)
         × (capacity ≤ 1024)
         × (260 * capacity ≤ length keys.now) }
     requires small { Small capacity keys.now n }
@@ -489,7 +489,7 @@ fn keep(
     stamp: u64,
 )
     requires wide { Wide capacity (lent stamps.old keys.old kept.old) }
-    requires i_lt_capacity { (i < capacity)
+    requires inside { (i < capacity)
         × (1 ≤ length subject.now)
         × (length subject.now ≤ 256)
         × (length list.now ≤ 16) }
@@ -525,7 +525,7 @@ fn keep_list(
     list: &[u32],
 ) -> Resolved
     requires ready { Ready cache (lent stamps.old keys.old kept.old) }
-    requires in_bounds { 1 ≤ length subject.now }
+    requires not_empty { 1 ≤ length subject.now }
     ensures { Keeps cache (lent stamps.old keys.old kept.old)
         subject.now list.now
         result (lent stamps.new keys.new kept.new) }
@@ -633,7 +633,7 @@ fn refused(text: Parsed) -> ResolveAnswer
 
 // A subject is looked for in the first n slots.
 fn look_up(keys: &[u8], capacity: usize, n: usize, subject: &[u8], room: usize) -> Decision
-    requires n_le_capacity { (n ≤ capacity)
+    requires slots { (n ≤ capacity)
         × (capacity ≤ 1024)
         × (260 * capacity ≤ length keys.now) }
     requires small { Small capacity keys.now n }

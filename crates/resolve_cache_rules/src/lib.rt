@@ -2,6 +2,7 @@
 // A method stands in its type's crate, so the constructors and what reads the state are here; the resolve is code of
 // `resolve_cache`.
 #![tactic(auto)]
+
 ghost use Rattle.std.specs.Prelude.{◌≡◌, max, eqb};
 ghost use Rattle.resolve_cache_rules.specs.Cache.{short, with_capacity, new_cache, clear};
 ghost use Rattle.resolve_cache_rules.specs.Answers.{cache_answer, lent};

@@ -51,7 +51,7 @@ look_up-requires c =
     let area = lent c.args.stamps.now c.args.keys.now c.args.kept.now in
     let r = good_ready c.args.cache area (good (goal.at.look_up-requires c).Else-is_bad) (short-wide c.args.cache.capacity area (roomy (goal.at.look_up-requires c).Else-is_short)) in
     let n : c.adopt-current.result.used ≤ c.args.cache.used = subst (λ d. d.used ≤ c.args.cache.used) (sym (on (goal.at.look_up-requires c).After-adopt-current)) (adopt-used c.args.snapshot.generation c.args.cache).0 in
-    ((omega arith, omega arith, omega arith), good_small c.args.cache area (good (goal.at.look_up-requires c).Else-is_bad) c.adopt-current.result.used n)
+    record { slots = (omega arith, omega arith, omega arith); small = good_small c.args.cache area (good (goal.at.look_up-requires c).Else-is_bad) c.adopt-current.result.used n }
 
 pub returns : goal.returns
 returns c =

@@ -11,10 +11,11 @@ loop-i-init c =
     (omega arith, omega arith, omega arith, omega arith, ap (find_from c.args.capacity c.args.keys.now c.args.subject.now 0) all)
 
 pub find_in_run-requires : goal.find_in_run-requires
-find_in_run-requires c = (
-  (c.run_end-end.ensures.0, c.run_end-end.ensures.1, omega arith, omega arith, omega arith),
-  ((λ i h. c.requires.1 i (omega (arith, c.run_end-end.ensures.2))), c.mark_of-sought.ensures),
-)
+find_in_run-requires c = record {
+  span = (c.run_end-end.ensures.0, c.run_end-end.ensures.1, omega arith, omega arith, omega arith);
+  small = λ i h. c.requires.small i (omega (arith, c.run_end-end.ensures.2));
+  mark = c.mark_of-sought.ensures;
+}
 
 pub returns-in-At : goal.returns-in-At
 returns-in-At c =

@@ -7,7 +7,7 @@ pub loop-i-init : goal.loop-i-init
 loop-i-init c = (omega arith, omega arith, omega arith, omega arith, refl)
 
 pub keeps-requires : goal.keeps-requires
-keeps-requires c = ((omega arith, omega arith, omega arith, (c.requires.1.0 c.loop-i.i (omega arith)).0), c.requires.1.1)
+keeps-requires c = record { inside = (omega arith, omega arith, omega arith, (c.requires.small c.loop-i.i (omega arith)).0); mark = c.requires.mark }
 
 pub returns-then-keeps : goal.returns-then-keeps
 returns-then-keeps c =

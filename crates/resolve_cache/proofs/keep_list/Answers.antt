@@ -18,11 +18,11 @@ returns-then-not-qualifies c =
 
 pub keep-requires : goal.keep-requires
 keep-requires c =
-    let sizes = kept_sizes c.args.subject.now c.args.list.now (fits (goal.at.keep-requires c).After-shared_slice_known-1) in
-    (c.requires.0.wide, (omega arith, omega arith, omega arith, omega arith))
+    let sizes = kept_sizes c.args.subject.now c.args.list.now (fits (goal.at.keep-requires c).Else-not-qualifies) in
+    record { wide = c.requires.ready.wide; inside = (omega arith, omega arith, omega arith, omega arith) }
 
 pub returns : goal.returns
 returns c =
-    list-kept c.args.cache (lent c.args.stamps.now c.args.keys.now c.args.kept.now) c.args.subject.now c.args.list.now (fits (goal.at.returns c).After-shared_slice_known-1)
+    list-kept c.args.cache (lent c.args.stamps.now c.args.keys.now c.args.kept.now) c.args.subject.now c.args.list.now (fits (goal.at.returns c).Else-not-qualifies)
     c.place-i.result c.place-i.ensures.0 c.next_tick-stamp.result c.next_tick-stamp.ensures
     (lent c.keep.new.stamps c.keep.new.keys c.keep.new.kept) c.keep.ensures c.grown.result c.grown.ensures

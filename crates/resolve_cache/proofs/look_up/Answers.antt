@@ -21,7 +21,7 @@ inside k i q =
 
 -- and it is not bad
 short : (k : After-find) (i : ℕ) → k.find.result ≡ At i → key_length k.args.capacity k.args.keys.now i ≤ 256
-short k i q = (k.requires.1 i (inside k i q)).0
+short k i q = (k.requires.small i (inside k i q)).0
 
 pub overflow_add-count : goal.overflow_add-count
 overflow_add-count c = let i = inside (goal.at.overflow_add-count c).After-find c.in-At.slot c.in-At.is in omega arith

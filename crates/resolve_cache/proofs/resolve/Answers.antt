@@ -23,7 +23,7 @@ show-requires c =
 pub walk-requires : goal.walk-requires
 walk-requires c =
     let d = told (goal.at.walk-requires c).After-decide Walk c.in-Walk.is in
-    (d.0, d.1)
+    record { ready = d.0; accepted = d.1 }
 
 pub returns-in-Refuse : goal.returns-in-Refuse
 returns-in-Refuse c = rw (c.refuse.ensures.0, c.refuse.ensures.1) (told (goal.at.returns-in-Refuse c).After-decide (Refuse c.in-Refuse.answer) c.in-Refuse.is)

@@ -23,7 +23,7 @@ told : (k : After-match_parsed) (m : SnapshotMatch) → k.match_parsed.result �
 told k m q =
     ap (λ x. outcome (snapshot_answer x) k.match_parsed.new.out) (sym q)
     ∙ k.match_parsed.ensures
-    ∙ parsed_match k.args.snapshot k.args.area.now k.args.subject.now k.args.out.now _ k.requires.1.1
+    ∙ parsed_match k.args.snapshot k.args.area.now k.args.subject.now k.args.out.now _ k.requires.accepted.1
 
 -- a refusal
 refused : (k : After-match_parsed) (m : SnapshotMatch) → k.match_parsed.result ≡ m → ((x : Answer) → snapshot_answer m ≡ when_accepted (snapshot_answer m) x)
@@ -40,7 +40,11 @@ listed : (x : In-Listed) → Lists x.args.cache (lent x.args.stamps.now x.args.k
 listed x =
     walk_lists x.args.cache (lent x.args.stamps.now x.args.keys.now x.args.kept.now) x.args.snapshot x.args.area.now x.args.subject.now x.args.out.now
     x.in-Listed.count x.in-Listed.peak x.in-Listed.generation.0 x.match_parsed.new.out
-    (told (goal.at.None x).After-match_parsed (Listed x.in-Listed.count x.in-Listed.peak x.in-Listed.generation) x.in-Listed.is)
+    (
+    ap (λ y. outcome (snapshot_answer y) x.match_parsed.new.out) (sym x.in-Listed.is)
+    ∙ x.match_parsed.ensures
+    ∙ parsed_match x.args.snapshot x.args.area.now x.args.subject.now x.args.out.now _ x.requires.accepted.1
+    )
 
 -- so many places are there
 inside : (x : In-Listed) → x.in-Listed.count ≤ length x.match_parsed.new.out
@@ -60,10 +64,10 @@ pub slice_bounds-keep_list-end-in-Listed : goal.slice_bounds-keep_list-end-in-Li
 slice_bounds-keep_list-end-in-Listed c = sym (length-take-le c.in-Listed.count c.match_parsed.new.out (inside (goal.at.slice_bounds-keep_list-end-in-Listed c).In-Listed))
 
 pub keep_list-requires : goal.keep_list-requires
-keep_list-requires c = (
-  ready_current c.args.snapshot.generation c.args.cache c.adopt-current.result (lent c.args.stamps.now c.args.keys.now c.args.kept.now) (on (goal.at.keep_list-requires c).After-generation) c.requires.0,
-  accepted_some c.args.subject.now _ c.requires.1.1,
-)
+keep_list-requires c = record {
+  ready = ready_current c.args.snapshot.generation c.args.cache c.adopt-current.result (lent c.args.stamps.now c.args.keys.now c.args.kept.now) (on (goal.at.keep_list-requires c).After-adopt-current) c.requires.ready;
+  not_empty = accepted_some c.args.subject.now _ c.requires.accepted.1;
+}
 
 pub returns-in-Invalid : goal.returns-in-Invalid
 returns-in-Invalid c = rw (c.refuse.ensures.0, c.refuse.ensures.1) (refused (goal.at.returns-in-Invalid c).After-match_parsed (Invalid c.in-Invalid.e) c.in-Invalid.is (λ x. refused_stands (Refused c.in-Invalid.e) c.in-Invalid.e x refl))
@@ -78,4 +82,4 @@ pub returns-in-Listed : goal.returns-in-Listed
 returns-in-Listed c =
     kept-walk c.args.cache (lent c.args.stamps.now c.args.keys.now c.args.kept.now) c.args.snapshot c.args.area.now c.args.subject.now c.args.out.now
     c.in-Listed.count c.match_parsed.new.out (listed (goal.at.returns-in-Listed c).In-Listed)
-    c.adopt-current.result (on (goal.at.returns-in-Listed c).After-generation) c.keep_list.result (lent c.keep_list.new.stamps c.keep_list.new.keys c.keep_list.new.kept) c.keep_list.ensures
+    c.adopt-current.result (on (goal.at.returns-in-Listed c).After-adopt-current) c.keep_list.result (lent c.keep_list.new.stamps c.keep_list.new.keys c.keep_list.new.kept) c.keep_list.ensures
