@@ -23,6 +23,7 @@ abbrev pub Within : List (List ℕ) → List (List ℕ) → Type 0
 Within pool ts = All (λ t. Memᴰ t pool) ts
 
 all_at : {A : Type 0} (P : A → Type 0) (xs : List A) (x : A) → All P xs → Memᴰ x xs → P x
+all_at P [] x a m = elim m [ ]
 all_at P (y ∷ ys) x a (Memᴰ.head e) = subst P (sym e) a.0
 all_at P (y ∷ ys) x a (Memᴰ.tail m) = all_at P ys x a.1 m
 

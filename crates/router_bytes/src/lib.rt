@@ -1,5 +1,6 @@
 // The match and the resolve on areas of bytes: their numbers are copied, and an accepted call's are written back.
 #![tactic(auto)]
+
 ghost use Rattle.std.specs.Prelude.{◌≡◌, [], ◌∷◌, ◌++◌, ◌+◌, ◌*◌, ◌/◌, ◌%◌, ◌≤◌, ltb, length, take, drop};
 ghost use Rattle.sublist_tree.specs.Lists.{put};
 ghost use Rattle.sublist_entries.specs.Inserting.{after_answer};

@@ -23,7 +23,7 @@ told k m q = ap (λ x. outcome (snapshot_answer x) k.match_into.new.out) (sym q)
 -- its list lies within the output
 inside : (x : In-Listed) → x.in-Listed.count ≤ length x.match_into.new.out
 inside x =
-    let h = match_inside x.args.snapshot x.args.area.now x.args.subject.now x.args.out.now x.match_into.new.out x.in-Listed.count x.in-Listed.peak x.in-Listed.generation.0 (told (goal.at.None x).After-match_into (Listed x.in-Listed.count x.in-Listed.peak x.in-Listed.generation) x.in-Listed.is) in
+    let h = match_inside x.args.snapshot x.args.area.now x.args.subject.now x.args.out.now x.match_into.new.out x.in-Listed.count x.in-Listed.peak x.in-Listed.generation.0 (ap (λ y. outcome (snapshot_answer y) x.match_into.new.out) (sym x.in-Listed.is) ∙ x.match_into.ensures) in
     omega (arith, h, x.match_into.auto.out)
 
 pub slice_bounds-single_home-end : goal.slice_bounds-single_home-end
@@ -43,5 +43,5 @@ returns-in-OutShort c = match_down c.args.snapshot c.args.area.now c.args.subjec
 
 pub returns-in-Listed : goal.returns-in-Listed
 returns-in-Listed c =
-    match_judged c.args.snapshot c.args.area.now c.args.subject.now c.args.out.now c.match_into.new.out c.in-Listed.count c.in-Listed.peak c.in-Listed.generation.0 (told (goal.at.returns-in-Listed c).After-match_into-arg-1 (Listed c.in-Listed.count c.in-Listed.peak c.in-Listed.generation) c.in-Listed.is)
+    match_judged c.args.snapshot c.args.area.now c.args.subject.now c.args.out.now c.match_into.new.out c.in-Listed.count c.in-Listed.peak c.in-Listed.generation.0 (told (goal.at.returns-in-Listed c).After-match_into (Listed c.in-Listed.count c.in-Listed.peak c.in-Listed.generation) c.in-Listed.is)
     c.single_home.result c.single_home.ensures

@@ -7,7 +7,7 @@ pub loop-i-preserved : goal.loop-i-preserved
 loop-i-preserved c = read_turn 8 c.args.bytes.now c.args.longs.now c.loop-i.i c.loop-i.invariant (search rules) (search rules) c.long_at.ensures
 
 pub returns : goal.returns
-returns c = (search rules, read_all 8 c.args.bytes.now c.args.longs.now c.loop-i.i c.loop-i.invariant (search rules))
+returns c = record { count = search rules; loaded = read_all 8 c.args.bytes.now c.args.longs.now c.loop-i.i c.loop-i.invariant (search rules) }
 
 pub loop-i-init : goal.loop-i-init
 loop-i-init c = (search rules, refl, refl)
