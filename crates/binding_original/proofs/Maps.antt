@@ -30,6 +30,7 @@ unequal : (xs ys : List ℕ) → equal xs ys ≡ false → xs ≡ ys → ⊥
 unequal xs ys e s = let t : equal xs ys ≡ true = rw s (equal_whole ys) in let z : ◌≡◌ {A = ℕ} 0 1 = cc in omega arith
 
 pub each_at : (P : Pair → Type 0) (es : HashMap ℕ) (x : Pair) → Each P es → Memᴰ x es → P x
+each_at P [] x a x4 = elim x4 [ ]
 each_at P (y ∷ ys) x a (Memᴰ.head e) = subst P (sym e) a.0
 each_at P (y ∷ ys) x a (Memᴰ.tail m) = each_at P ys x a.1 m
 
@@ -94,10 +95,12 @@ refresh-length [] key t = refl
 refresh-length ((k, e) ∷ es) key t = ap length (refresh-step k e es key t) ∙ ap suc (refresh-length es key t)
 
 pub refresh_to : (es : HashMap ℕ) (key : List ℕ) (t : ℕ) (x : Pair) → Memᴰ x es → Memᴰ (upd key t x) (refresh es key t)
+refresh_to [] key t x x3 = elim x3 [ ]
 refresh_to ((k, e) ∷ es) key t x (Memᴰ.head q) = rw (refresh-step k e es key t) (Memᴰ.head (ap (upd key t) q))
 refresh_to ((k, e) ∷ es) key t x (Memᴰ.tail m) = rw (refresh-step k e es key t) (Memᴰ.tail (refresh_to es key t x m))
 
 pub refresh_from : (es : HashMap ℕ) (key : List ℕ) (t : ℕ) (y : Pair) → Memᴰ y (refresh es key t) → (x : Pair) × Memᴰ x es × (y ≡ upd key t x)
+refresh_from [] key t y m = elim m [ ]
 refresh_from ((k, e) ∷ es) key t y m = go (subst (Memᴰ y) (refresh-step k e es key t) m) (refresh_from es key t y)
   where
     go : Memᴰ y (upd key t (k, e) ∷ refresh es key t) → (Memᴰ y (refresh es key t) → (x : Pair) × Memᴰ x es × (y ≡ upd key t x))
@@ -121,6 +124,7 @@ remove_absent [] key a = refl
 remove_absent ((k, e) ∷ es) key a = rw (equal_other k key a.0, remove_absent es key a.1)
 
 pub remove_from : (es : HashMap ℕ) (key : List ℕ) (y : Pair) → Memᴰ y (remove es key) → Memᴰ y es × (y.0 ≡ key → ⊥)
+remove_from [] key y m = elim m [ ]
 remove_from ((k, e) ∷ es) key y m = go (equal k key) refl m (remove_from es key y)
   where
     go : (b : Bool) → equal k key ≡ b → Memᴰ y (if b then remove es key else (k, e) ∷ remove es key)
@@ -130,6 +134,7 @@ remove_from ((k, e) ∷ es) key y m = go (equal k key) refl m (remove_from es ke
     go false p (Memᴰ.tail n) ih = let r = ih n in (Memᴰ.tail r.0, r.1)
 
 pub remove_to : (es : HashMap ℕ) (key : List ℕ) (x : Pair) → Memᴰ x es → (x.0 ≡ key → ⊥) → Memᴰ x (remove es key)
+remove_to [] key x x4 n = elim x4 [ ]
 remove_to ((k, e) ∷ es) key x (Memᴰ.head q) n = rw (equal_other k key (λ s. n (ap (λ (y : Pair). y.0) q ∙ s))) (Memᴰ.head q)
 remove_to ((k, e) ∷ es) key x (Memᴰ.tail m) n = go (equal k key) (remove_to es key x m n)
   where
@@ -146,6 +151,7 @@ remove_once ((k, e) ∷ es) key o = go (equal k key) (remove_once es key o.1)
     go false r = (absent_of (remove es key) k (λ y m q. each_at (λ x. x.0 ≡ k → ⊥) es y o.0 (remove_from es key y m).0 q), r)
 
 pub remove-length : (es : HashMap ℕ) (x : Pair) → Once es → Memᴰ x es → suc (length (remove es x.0)) ≡ length es
+remove-length [] x o x4 = elim x4 [ ]
 remove-length ((k, e) ∷ es) x o (Memᴰ.head q) =
     let s : k ≡ x.0 = ap (λ (y : Pair). y.0) (sym q) in
     let t : remove ((k, e) ∷ es) x.0 ≡ es = rw (← s, equal_whole k) (remove_absent es k o.0) in
@@ -162,6 +168,7 @@ push-length [] x = refl
 push-length (y ∷ es) x = ap suc (push-length es x)
 
 pub push_old : (es : HashMap ℕ) (x y : Pair) → Memᴰ y es → Memᴰ y (es ++ (x ∷ []))
+push_old [] x y x3 = elim x3 [ ]
 push_old (z ∷ es) x y (Memᴰ.head q) = Memᴰ.head q
 push_old (z ∷ es) x y (Memᴰ.tail m) = Memᴰ.tail (push_old es x y m)
 
@@ -170,6 +177,7 @@ push-new [] x = Memᴰ.head refl
 push-new (y ∷ es) x = Memᴰ.tail (push-new es x)
 
 pub push_from : (es : HashMap ℕ) (x y : Pair) → Memᴰ y (es ++ (x ∷ [])) → Memᴰ y es ⊎ (y ≡ x)
+push_from [] x y (mathlib.Core.List.Memᴰ.tail m) = elim m [ ]
 push_from [] x y (Memᴰ.head q) = inr q
 push_from (z ∷ es) x y (Memᴰ.head q) = inl (Memᴰ.head q)
 push_from (z ∷ es) x y (Memᴰ.tail m) = go (push_from es x y m)

@@ -93,7 +93,7 @@ fn check_subjects(bytes: &[u8], spans: &[usize]) -> SubjectCheck
 
 // The verdict on an accepted subject. An output of one place is enough: a longer list counts only by its length.
 fn judge(snapshot: Snapshot, area: &[u32], subject: &[u8]) -> Judgement
-    requires area_value { stands_in snapshot area.now ≡ true }
+    requires standing { stands_in snapshot area.now ≡ true }
     requires accepted { Accepted subject.now }
     ensures { result ≡ judgement (walk_of snapshot area.now subject.now) }
 {
@@ -118,9 +118,9 @@ fn route_subjects(
     spans: &[usize],
     targets: &mut [u32],
 ) -> WholeMove
-    requires area_value { stands_in snapshot area.now ≡ true }
-    requires spans_value { bad_subjects bytes.now 0 (spans_in spans.now) ≡ none }
-    requires spans_in_bounds { length spans.now / 2 ≤ length targets.old }
+    requires standing { stands_in snapshot area.now ≡ true }
+    requires sound { bad_subjects bytes.now 0 (spans_in spans.now) ≡ none }
+    requires room { length spans.now / 2 ≤ length targets.old }
     ensures { (routes_told result targets.new
         ≡ routes (walk_of snapshot area.now) 0
         (map (text_at bytes.now) (spans_in spans.now)))
@@ -169,8 +169,8 @@ fn route_all(
     spans: &[usize],
     out: &mut [u32],
 ) -> WholeMove
-    requires spans_len_bound { length (spans_in spans.now) ≤ 64 }
-    requires spans_value { bad_subjects bytes.now 0 (spans_in spans.now) ≡ none }
+    requires few { length (spans_in spans.now) ≤ 64 }
+    requires sound { bad_subjects bytes.now 0 (spans_in spans.now) ≡ none }
     ensures { moved result out.new
         ≡ route_all snapshot area.now bytes.now (spans_in spans.now)
         out.old }

@@ -22,7 +22,7 @@ told : (k : After-match_parsed) (m : SnapshotMatch) → k.match_parsed.result �
     → outcome (snapshot_answer m) k.match_parsed.new.out
     ≡ with_generation k.args.snapshot.generation (written (walk_of k.args.snapshot k.args.area.now k.args.subject.now) (0 ∷ []))
 told k m q =
-    match_says k.args.snapshot k.args.area.now k.args.subject.now (0 ∷ []) k.match_parsed.new.out k.requires.0 k.requires.1
+    match_says k.args.snapshot k.args.area.now k.args.subject.now (0 ∷ []) k.match_parsed.new.out k.requires.standing k.requires.accepted
     k.match_parsed.result m k.match_parsed.ensures q
 
 -- its list is at the start of the output, and the verdict on it is the subject's
@@ -30,7 +30,10 @@ listed : (x : In-Listed) → (x.in-Listed.count ≤ length x.match_parsed.new.ou
     × (Verdict (single_home (take x.in-Listed.count x.match_parsed.new.out)) ≡ judgement (walk_of x.args.snapshot x.args.area.now x.args.subject.now))
 listed x =
     judged-listed x.args.snapshot.generation (0 ∷ []) x.match_parsed.new.out (walk_of x.args.snapshot x.args.area.now x.args.subject.now)
-    x.in-Listed.count x.in-Listed.peak x.in-Listed.generation.0 (told (goal.at.None x).After-match_parsed (Listed x.in-Listed.count x.in-Listed.peak x.in-Listed.generation) x.in-Listed.is)
+    x.in-Listed.count x.in-Listed.peak x.in-Listed.generation.0 (
+    match_says x.args.snapshot x.args.area.now x.args.subject.now (0 ∷ []) x.match_parsed.new.out x.requires.standing x.requires.accepted
+    x.match_parsed.result (Listed x.in-Listed.count x.in-Listed.peak x.in-Listed.generation) x.match_parsed.ensures x.in-Listed.is
+    )
 
 pub slice_bounds-one-end : goal.slice_bounds-one-end
 slice_bounds-one-end c = (listed (goal.at.slice_bounds-one-end c).In-Listed).0

@@ -27,7 +27,11 @@ returns-then-not-stands_in c =
     (sym c.stands_in.ensures ∙ c.if-not-stands_in.true)
 
 pub route_subjects-routed-requires : goal.route_subjects-routed-requires
-route_subjects-routed-requires c = (stands (goal.at.route_subjects-routed-requires c).Else-not-stands_in, (c.requires.1, omega (arith, c.requires.0, spans_length c.args.spans.now)))
+route_subjects-routed-requires c = record {
+  standing = stands (goal.at.route_subjects-routed-requires c).Else-not-stands_in;
+  sound = c.requires.sound;
+  room = omega (arith, c.requires.few, spans_length c.args.spans.now);
+}
 
 pub returns-in_default : goal.returns-in_default
 returns-in_default c =

@@ -25,7 +25,10 @@ pub returns-then-spans-gt-MAX_MOVE : goal.returns-then-spans-gt-MAX_MOVE
 returns-then-spans-gt-MAX_MOVE c = whole_large c.args.snapshot c.args.area.now c.args.bytes.now (spans_in c.args.spans.now) c.args.out.now (omega (arith, c.if-spans-gt-MAX_MOVE.true, spans_length c.args.spans.now))
 
 pub route_all-requires : goal.route_all-requires
-route_all-requires c = (few (goal.at.route_all-requires c).Else-spans-gt-MAX_MOVE, sym (told (goal.at.route_all-requires c).After-check_subjects Sound c.in-Sound.is))
+route_all-requires c = record {
+  few = few (goal.at.route_all-requires c).Else-spans-gt-MAX_MOVE;
+  sound = sym (told (goal.at.route_all-requires c).After-check_subjects Sound c.in-Sound.is);
+}
 
 pub returns-in-Outside : goal.returns-in-Outside
 returns-in-Outside c = whole_refused c.args.snapshot c.args.area.now c.args.bytes.now (spans_in c.args.spans.now) c.args.out.now (few (goal.at.returns-in-Outside c).Else-spans-gt-MAX_MOVE) _ (told (goal.at.returns-in-Outside c).After-check_subjects (Outside c.in-Outside.place) c.in-Outside.is)
