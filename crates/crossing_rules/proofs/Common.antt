@@ -12,6 +12,7 @@ use Rattle.subject_rules.specs.Matching.{match_tokens}
 use Rattle.sublist_tree.specs.Lists.{All}
 use Rattle.sublist_tree.proofs.Bytes.{same-sound, same_whole}
 use Rattle.crossing_rules.specs.Crossing.{is_wild, plain, meet, followed, common}
+use Rattle.crossing_rules.proofs.Meeting.{wild_star, by_meeting}
 
 -- what is said of something that there may be: of nothing, everything
 abbrev pub If : {A : Type 0} → (A → Type 0) → Option A → Type 0
@@ -51,30 +52,6 @@ plain_of filler t P f l = go (is_wild t) refl
     go : (w : Bool) → is_wild t ≡ w → P (pick w filler t)
     go true e = f
     go false e = l e
-
-pub wild_star : (t : List ℕ) → is_tail t ≡ false → is_wild t ≡ is_star t
-wild_star t n = rw n (go (is_star t))
-  where
-    go : (s : Bool) → or s false ≡ s
-    go true = refl
-    go false = refl
-
--- the token of two, neither of them `>`: by the ways through `meet`
-module _ (filler p q : List ℕ) (pn : is_tail p ≡ false) (qn : is_tail q ≡ false) (P : Option (List ℕ) → Type 0) where
-  pub by_meeting : (is_star p ≡ true → is_star q ≡ true → P (some filler))
-      → (is_star p ≡ true → is_star q ≡ false → P (some q))
-      → (is_star p ≡ false → is_star q ≡ true → P (some p))
-      → (is_star p ≡ false → is_star q ≡ false → same p q ≡ true → P (some p))
-      → (is_star p ≡ false → is_star q ≡ false → same p q ≡ false → P none)
-      → P (meet filler p q)
-  by_meeting v w x y z = rw (wild_star q qn) (go (is_star p) refl (is_star q) refl (same p q) refl)
-    where
-      go : (a : Bool) → is_star p ≡ a → (b : Bool) → is_star q ≡ b → (c : Bool) → same p q ≡ c → P (pick a (some (pick b filler q)) (pick (or b c) (some p) none))
-      go true e true f c g = v e f
-      go true e false f c g = w e f
-      go false e true f c g = x e f
-      go false e false f true g = y e f g
-      go false e false f false g = z e f g
 
 -- ---- each of its tokens is the filler or a literal of one of the two
 

@@ -1,10 +1,9 @@
 -- The call `crossing` gives what 2026-01 asks, and nothing else would do.
-use Prim.Native.Nat.{ℕ, zero, suc, ◌+◌, ◌≤◌, ◌<◌}
+use Prim.Native.Nat.{ℕ, zero, suc, ◌+◌, ◌≤◌}
 use native.Mathlib.Omega.{arith}
 use mathlib.Core.Path.{◌≡◌, refl, sym, ap, ◌∙◌}
 use mathlib.Core.Bool.{Bool, true, false}
 use mathlib.Core.List.{List, [], ◌∷◌}
-use mathlib.Core.Logic.{◌↔◌}
 use mathlib.Core.Option.{Option, none, some}
 use lib.Dec.{ltb}
 use lib.ListN.{length}
@@ -24,6 +23,7 @@ use Rattle.crossing_rules.proofs.Texts.{joined-tokens, size, size_joined}
 use Rattle.crossing_rules.proofs.Legal.{Literal, literals-last, legal_tokens, legal_accepted, Pattern, accepted-pattern, accepted-filled}
 use Rattle.crossing_rules.proofs.Common.{Is, if_is, common_all, common-most, common_some, common-matched}
 use Rattle.crossing_rules.proofs.Shortest.{FilledAt, common-short, common-filled, common-only}
+use Rattle.crossing_rules.proofs.ByLimit.{by_limit}
 
 -- ---- a match of two texts
 
@@ -55,16 +55,6 @@ match_yes pattern subject e = go (grammar true pattern) refl (grammar false subj
 pub yes_match : (pattern subject : List ℕ) → Matching pattern subject → matching pattern subject ≡ said true
 unfolding matching
 yes_match pattern subject m = rw (m.pattern_accepted, m.subject_accepted, m.tokens_match)
-
--- ---- a text within the limit, or none
-
-module _ (ts : List (List ℕ)) (P : Option (List ℕ) → Type 0) where
-  by_limit : (length (joined ts) ≤ 4096 → P (some (joined ts))) → (4096 < length (joined ts) → P none) → P (of_tokens (some ts))
-  by_limit x y = go (ltb 4096 (length (joined ts))) refl
-    where
-      go : (b : Bool) → ltb 4096 (length (joined ts)) ≡ b → P (pick b none (some (joined ts)))
-      go true h = y (ltb-true 4096 (length (joined ts)) h)
-      go false h = x (ltb-false 4096 (length (joined ts)) h)
 
 -- ---- two accepted patterns
 
@@ -263,14 +253,3 @@ module _ (first second out : List ℕ) where
   pub crossing-only : (o : Outcome) → Asked (0x78 ∷ []) first second out o → o ≡ crossing first second out
   unfolding crossing
   crossing-only o a = with_only (0x78 ∷ []) x_literal refl first second out o a
-
-  -- none is said exactly if no accepted subject matches both
-  pub none_exactly : Accepts first → Accepts second → (crossing first second out ≡ outcome (answer 0 (0 ∷ [])) out) ↔ Apart first second
-  none_exactly f s = (said-apart crossing-asked, λ n. sym (crossing-only _ (apart f s n refl)))
-    where
-      said-apart : {o : Outcome} → Asked (0x78 ∷ []) first second out o → o ≡ outcome (answer 0 (0 ∷ [])) out → Apart first second
-      said-apart (first_refused a r e) h = let z : ◌≡◌ {A = ℕ} 0 1 = cc r.refusal in absurd (omega arith)
-      said-apart (second_refused a f r e) h = let z : ◌≡◌ {A = ℕ} 0 1 = cc r.refusal in absurd (omega arith)
-      said-apart (apart f s n e) h = n
-      said-apart (out_short t f s w l e) h = let z : ◌≡◌ {A = ℕ} 0 1 = cc in absurd (omega arith)
-      said-apart (shown t f s w l e) h = let z : ◌≡◌ {A = ℕ} 0 1 = cc in absurd (omega arith)

@@ -1,4 +1,7 @@
+pub mod Meeting
 pub mod Common
+pub mod ByLimit
+pub mod NoneShown
 pub mod Exactly
 pub mod Legal
 pub mod Limits

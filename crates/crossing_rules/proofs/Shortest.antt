@@ -16,7 +16,8 @@ use Rattle.crossing_rules.specs.Crossing.{plain, meet, followed, common}
 use Rattle.crossing_rules.specs.Asked.{wild_at}
 use Rattle.crossing_rules.proofs.Texts.{size}
 use Rattle.crossing_rules.proofs.Legal.{TailLast}
-use Rattle.crossing_rules.proofs.Common.{If, Is, by_tokens, by_meeting, wild_star, fits}
+use Rattle.crossing_rules.proofs.Common.{If, Is, by_tokens, fits}
+use Rattle.crossing_rules.proofs.Meeting.{wild_star, by_meeting}
 
 never : true ≡ false → ⊥
 never e = let z : ◌≡◌ {A = ℕ} 0 1 = cc in omega arith

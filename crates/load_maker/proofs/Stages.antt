@@ -12,7 +12,7 @@ use Rattle.subject_rules.proofs.Stores.{sets_over}
 use Rattle.load_maker_rules.specs.Xorshift.{draw, draws}
 use Rattle.load_maker_rules.specs.Load.{made_tokens, made_text, made, make}
 use Rattle.load_maker_rules.proofs.Making.{made-count, made-length}
-use Rattle.load_maker_rules.proofs.Exactly.{short-says, makes-says}
+use Rattle.load_maker_rules.proofs.Says.{short-says, makes-says}
 
 module _ (wild : Bool) (s : ℕ) (out : List ℕ) (d : ℕ) (e : d ≡ draw s) (n : s ≡ 0 → ⊥) where
   -- the text's length

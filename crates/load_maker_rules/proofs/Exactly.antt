@@ -8,18 +8,19 @@ use mathlib.Core.List.{List, [], ◌∷◌}
 use lib.Dec.{eqb, ltb}
 use lib.ListN.{length, get_or}
 use lib.Seq.{ext_get_or}
-use borrow.Author.Tests.{eq-eqb, ne_eqb, eqb-true, eqb-false, lt-ltb, le-ltb, ltb-true, ltb-false}
+use borrow.Author.Tests.{eq-eqb, ne_eqb, eqb-true, eqb-false, ltb-true, ltb-false}
 use Rattle.subject_rules.specs.Text.{tokens, joined}
 use Rattle.subject_rules.specs.Answers.{answer}
 use Rattle.subject_rules.specs.Grammar.{grammar}
 use Rattle.subject_rules.specs.Outputs.{over}
 use Rattle.crossing_rules.proofs.Texts.{joined-tokens}
 use Rattle.load_maker_rules.specs.Xorshift.{draw, draws}
-use Rattle.load_maker_rules.specs.Load.{count, token_byte, made_text, new_state, Making, made, make}
+use Rattle.load_maker_rules.specs.Load.{count, token_byte, made_text, Making, made, make}
 use Rattle.load_maker_rules.specs.Asked.{IsByte, Pattern, Subject, MadeFrom, Asked, zero_start, out_short, makes}
 use Rattle.load_maker_rules.specs.Asked.{Live, Call, call, state_of, state_after}
 use Rattle.load_maker_rules.proofs.Drawing.{draw-fits, draw_zero}
 use Rattle.load_maker_rules.proofs.Making.{token_at, made-tokens, made-count, made-accepted}
+use Rattle.load_maker_rules.proofs.Says.{zero_says, short-says, makes-says}
 
 -- ---- the text that is made
 
@@ -95,50 +96,31 @@ made_from_accepted wild s t p =
 
 -- ---- the calls
 
--- the new state is that behind a draw for the count and one for each token
-state_new : (wild : Bool) (s : ℕ) → new_state s ≡ draws (1 + length (tokens (made_text wild s))) s
-unfolding new_state
-state_new wild s = rw (made-count wild s)
-
 module _ (wild : Bool) (s : ℕ) (out : List ℕ) where
-  -- what a call gives, by its three cases
-  pub zero_says : s ≡ 0 → make wild s out ≡ made (answer 28 []) s out
-  unfolding make
-  zero_says z = rw (eq-eqb s 0 z)
-
-  pub short-says : (s ≡ 0 → ⊥) → length out < length (made_text wild s) → make wild s out ≡ made (answer 21 (length (made_text wild s) ∷ [])) s out
-  unfolding make
-  short-says n l = rw (ne_eqb s 0 n, lt-ltb (length out) (length (made_text wild s)) l)
-
-  pub makes-says : (s ≡ 0 → ⊥) → length (made_text wild s) ≤ length out
-      → make wild s out ≡ made (answer 0 (length (made_text wild s) ∷ [])) (draws (1 + length (tokens (made_text wild s))) s) (over (made_text wild s) out)
-  unfolding make
-  makes-says n l = rw (ne_eqb s 0 n, le-ltb (length out) (length (made_text wild s)) l, state_new wild s)
-
-  -- that is asked
+  -- what a call gives is asked
   pub make-asked : Asked wild s out (make wild s out)
   make-asked = go (eqb s 0) refl (ltb (length out) (length (made_text wild s))) refl
     where
       go : (z : Bool) → eqb s 0 ≡ z → (l : Bool) → ltb (length out) (length (made_text wild s)) ≡ l → Asked wild s out (make wild s out)
-      go true p l q = zero_start (eqb-true s 0 p) (zero_says (eqb-true s 0 p))
+      go true p l q = zero_start (eqb-true s 0 p) (zero_says wild s out (eqb-true s 0 p))
       go false p true q =
           out_short (made_text wild s) (eqb-false s 0 p) (made_from wild s) (ltb-true (length out) (length (made_text wild s)) q)
-          (short-says (eqb-false s 0 p) (ltb-true (length out) (length (made_text wild s)) q))
+          (short-says wild s out (eqb-false s 0 p) (ltb-true (length out) (length (made_text wild s)) q))
       go false p false q =
           makes (made_text wild s) (eqb-false s 0 p) (made_from wild s) (ltb-false (length out) (length (made_text wild s)) q)
-          (makes-says (eqb-false s 0 p) (ltb-false (length out) (length (made_text wild s)) q))
+          (makes-says wild s out (eqb-false s 0 p) (ltb-false (length out) (length (made_text wild s)) q))
 
   -- and nothing else would do: the request fixes answer, state and output
   pub make-only : (m : Making) → Asked wild s out m → m ≡ make wild s out
-  make-only m (zero_start z e) = e ∙ sym (zero_says z)
+  make-only m (zero_start z e) = e ∙ sym (zero_says wild s out z)
   make-only m (out_short t n p l e) =
       let same = made-only wild s t p in
       let q : m ≡ made (answer 21 (length (made_text wild s) ∷ [])) s out = rw same at e in
-      q ∙ sym (short-says n (rw same at l))
+      q ∙ sym (short-says wild s out n (rw same at l))
   make-only m (makes t n p l e) =
       let same = made-only wild s t p in
       let q : m ≡ made (answer 0 (length (made_text wild s) ∷ [])) (draws (1 + length (tokens (made_text wild s))) s) (over (made_text wild s) out) = rw same at e in
-      q ∙ sym (makes-says n (rw same at l))
+      q ∙ sym (makes-says wild s out n (rw same at l))
 
 -- ---- "the state never becomes 0"
 

@@ -1,8 +1,7 @@
 -- A key, and a run of keys, put into an area that holds a history: the area holds the history with the run in it, or has no room for it.
-use Prim.Native.Nat.{ℕ, suc, ◌+◌, ◌*◌, ◌/◌, ◌≤◌, ◌<◌, ◌^◌}
+use Prim.Native.Nat.{ℕ, suc, ◌+◌, ◌*◌, ◌≤◌, ◌<◌, ◌^◌}
 use native.Mathlib.Omega.{arith}
 use native.Mathlib.Decide.{ℕ_discrete, dec_lt}
-use native.Mathlib.Numerals.{add-one}
 use mathlib.Core.Path.{◌≡◌, refl, sym, ◌∙◌, ap, subst}
 use mathlib.Core.Logic.{◌⊎◌, inl, inr}
 use mathlib.Core.Bool.{Bool}
@@ -17,13 +16,12 @@ use Rattle.sublist_area_rules.specs.declared.Placed.{Placed}
 use Rattle.sublist_area_rules.specs.declared.Placed.TheVariants.{At, Full}
 use Rattle.sublist_area_rules.specs.Words.{Met, word}
 use Rattle.sublist_area_rules.specs.Growing.{hash_of}
-use Rattle.sublist_area_rules.proofs.AnyKeys.{hashed, child_by, child_or_new_by, onward_by, grown_by}
-use Rattle.sublist_area_rules.proofs.Ways.{way_node, way_full, way_many, way_new}
+use Rattle.sublist_area_rules.proofs.AnyKeys.{hashed, child_or_new_by, onward_by, grown_by}
 use Rattle.sublist_area_rules.proofs.Places.{place, NoLink, place_less, place_else}
 use Rattle.sublist_area_rules.proofs.Rep.{Keys, Written, RepBy}
-use Rattle.sublist_area_rules.proofs.Lookup.{lookup_there, lookup_none}
 use Rattle.sublist_area_rules.proofs.Stores.{fresh_zero, added_new, added_old, added_behind}
 use Rattle.sublist_area_rules.proofs.Step.{with_child, length-child, added_rep}
+use Rattle.sublist_area_rules.proofs.OneKey.{step_there, step_full, step-new}
 
 -- a word of the targets, 4 to 7, or of the token's place, 13 to 15
 abbrev pub LeftWord : ℕ → Type 0
@@ -106,27 +104,8 @@ module _ {K : Type 0} {eq : K → K → Bool} {hash : K → ℕ} {test : List �
   -- ---- one key
 
   module _ (a : List ℕ) (t : Trie K) (i : ℕ) (k : Key K) (r : RepBy eq hash Named a t) (inside : i < size t) where
-    pub step_there : (child eq t i k ≡ 0 → ⊥) → child_or_new_by test hash a (size t) i k ≡ (At (child eq t i k) (size t), a)
-    unfolding child_or_new_by
-    step_there n = sym (way_node (child_by test hash a (size t) i k) a (size t) i (hashed hash k) (child eq t i k) (lookup_there L a t r i inside k n))
-
     module _ (z : child eq t i k ≡ 0) where
-      pub step_full : length a < size t * 16 + 16 ⊎ (4294967295 ≤ size t) → child_or_new_by test hash a (size t) i k ≡ (Full, a)
-      unfolding child_or_new_by
-      step_full (inl l) = sym (way_full (child_by test hash a (size t) i k) a (size t) i (hashed hash k) (place hash t i k) (lookup_none L a t r i inside k z) (omega arith))
-      step_full (inr l) = go (dec_lt (size t) (length a / 16))
-        where
-          go : Dec (size t < length a / 16) → child_or_new_by test hash a (size t) i k ≡ (Full, a)
-          go (yes d) = sym (way_many (child_by test hash a (size t) i k) a (size t) i (hashed hash k) (place hash t i k) (lookup_none L a t r i inside k z) d l)
-          go (no d) = sym (way_full (child_by test hash a (size t) i k) a (size t) i (hashed hash k) (place hash t i k) (lookup_none L a t r i inside k z) (omega arith))
-
       module _ (room : size t * 16 + 16 ≤ length a) where
-        pub step-new : size t < 4294967295 → child_or_new_by test hash a (size t) i k ≡ (At (size t) (suc (size t)), with_child hash a t i k)
-        unfolding child_or_new_by
-        step-new l =
-            sym (way_new (child_by test hash a (size t) i k) a (size t) i (hashed hash k) (place hash t i k) (lookup_none L a t r i inside k z) (omega arith) l)
-            ∙ ap (λ x. (At (size t) x, with_child hash a t i k)) (add-one (size t))
-
         pub step_grew : GrewBy eq hash Named a t (with_child hash a t i k) (grow t i k)
         unfolding size
         step_grew =
@@ -213,16 +192,16 @@ module _ {K : Type 0} {eq : K → K → Bool} {hash : K → ℕ} {test : List �
           → (RepBy eq hash Named (with_child hash a t i k) (grow t i k) → suc (size t) < 2 ^ 32
           → RunEndsBy eq hash Named (with_child hash a t i k) (grow t i k) (grown_by test hash (At (size t) (suc (size t)), with_child hash a t i k) ks) (ins_t eq (grow t i k) (size t) ks))
           → RunEndsBy eq hash Named a t (grown_by test hash (At i (size t), a) (k ∷ ks)) (ins_t eq t i (k ∷ ks))
-      go (no n) p q old new = via a t i k ks r h _ _ (step_there a t i k r h n) (on_there a t i k ks n) old
-      go (yes z) (yes p) q old new = via a t i k ks r h _ _ (step_full a t i k r h z (inl p)) (on_new a t i k ks z) (full a t i k ks r h z (inl p))
+      go (no n) p q old new = via a t i k ks r h _ _ (step_there L a t i k r h n) (on_there a t i k ks n) old
+      go (yes z) (yes p) q old new = via a t i k ks r h _ _ (step_full L a t i k r h z (inl p)) (on_new a t i k ks z) (full a t i k ks r h z (inl p))
       go (yes z) (no p) (no q) old new =
           let l : 4294967295 ≤ size t = omega arith in
-          via a t i k ks r h _ _ (step_full a t i k r h z (inr l)) (on_new a t i k ks z) (full a t i k ks r h z (inr l))
+          via a t i k ks r h _ _ (step_full L a t i k r h z (inr l)) (on_new a t i k ks z) (full a t i k ks r h z (inr l))
       go (yes z) (no p) (yes q) old new =
           let room : size t * 16 + 16 ≤ length a = omega arith in
           let v = ins_t eq (grow t i k) (size t) ks in
           let s = grown_by test hash (At (size t) (suc (size t)), with_child hash a t i k) ks in
-          via a t i k ks r h _ _ (step-new a t i k r h z room q) (on_new a t i k ks z)
+          via a t i k ks r h _ _ (step-new L a t i k r h z room q) (on_new a t i k ks z)
           (made a t i k ks r h z room v s (new (step_grew a t i k r h z room).rep (omega arith)))
 
   -- a run that fits is put in

@@ -1,20 +1,17 @@
 -- The keys of today: a key is its hash, and the test of a node is that of the hash alone.
 use Prim.Native.Nat.{ℕ, ◌+◌, ◌*◌, ◌/◌, ◌%◌, ◌≤◌, ◌<◌, ◌^◌}
-use native.Mathlib.Omega.{arith}
 use native.Mathlib.Decide.{ℕ_discrete}
 use mathlib.Core.Path.{◌≡◌, refl, sym, ◌∙◌, ap, subst}
-use mathlib.Core.Bool.{true, false}
 use mathlib.Core.List.{List, [], ◌∷◌}
 use lib.Dec.{eqb}
 use lib.ListN.{length, set}
 use borrow.Author.Tests.{eqb-true, eq-eqb, ne_eqb}
-use Rattle.subject_rules.specs.Choice.{and}
 use Rattle.sublist_tree.specs.Tree.{Key, star, lit}
 use Rattle.sublist_trie.proofs.Trie.{Trie, root, size, child, ins_t}
 use Rattle.sublist_area_rules.specs.declared.Child.TheVariants.{Node, Missing}
 use Rattle.sublist_area_rules.specs.declared.Placed.{Placed}
 use Rattle.sublist_area_rules.specs.declared.Placed.TheVariants.{At, Full, Broken}
-use Rattle.sublist_area_rules.specs.Words.{told, word, hash_is, by_hash, literal_child, child_of}
+use Rattle.sublist_area_rules.specs.Words.{told, word, by_hash, literal_child, child_of}
 use Rattle.sublist_area_rules.specs.Growing.{planted, child_or_new, onward, grown}
 use Rattle.sublist_area_rules.proofs.AnyKeys.{sought, child_by, child_or_new_by, onward_by, grown_by}
 use Rattle.sublist_area_rules.proofs.Places.{eqb_same, place}
@@ -23,22 +20,7 @@ use Rattle.sublist_area_rules.proofs.Grown.{GrewBy, PutInBy, RunEndsBy}
 use Rattle.sublist_area_rules.proofs.Lookup as lookup
 use Rattle.sublist_area_rules.proofs.Step as step
 use Rattle.sublist_area_rules.proofs.Grown as run
-
--- the halves of a hash are equal where the hash is
-module _ (a : List ℕ) (j g h : ℕ) (lo : word a j 0 ≡ g % 4294967296) (hi : word a j 1 ≡ g / 4294967296) where
-  pub hash_hit : g ≡ h → hash_is a j h ≡ true
-  hash_hit e =
-      ap (λ b. and b (eqb (word a j 1) (h / 4294967296))) (eq-eqb (word a j 0) (h % 4294967296) (lo ∙ ap (λ x. x % 4294967296) e))
-      ∙ eq-eqb (word a j 1) (h / 4294967296) (hi ∙ ap (λ x. x / 4294967296) e)
-
-  pub hash_miss : (g ≡ h → ⊥) → hash_is a j h ≡ false
-  hash_miss ne = go (ℕ_discrete (word a j 0) (h % 4294967296))
-    where
-      go : Dec (word a j 0 ≡ h % 4294967296) → hash_is a j h ≡ false
-      go (no l) = ap (λ b. and b (eqb (word a j 1) (h / 4294967296))) (ne_eqb (word a j 0) (h % 4294967296) l)
-      go (yes l) =
-          ap (λ b. and b (eqb (word a j 1) (h / 4294967296))) (eq-eqb (word a j 0) (h % 4294967296) l)
-          ∙ ne_eqb (word a j 1) (h / 4294967296) (λ u. ne (omega arith))
+use Rattle.sublist_area_rules.proofs.Halves.{hash_hit, hash_miss}
 
 -- the hash of a key
 abbrev pub itself : ℕ → ℕ

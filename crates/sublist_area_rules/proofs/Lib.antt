@@ -8,5 +8,7 @@ pub mod Rep
 pub mod Lookup
 pub mod Stores
 pub mod Step
+pub mod OneKey
 pub mod Grown
+pub mod Halves
 pub mod Hashes

@@ -1,13 +1,12 @@
 -- What an accepted build leaves: its areas hold the tree of its entries, whose worst case is at most 1,024, and the places behind are left.
-use Prim.Native.Nat.{ℕ, zero, suc, ◌+◌, ◌-◌, ◌*◌, ◌/◌, ◌%◌, ◌<◌, ◌≤◌, max}
+use Prim.Native.Nat.{ℕ, zero, suc, ◌+◌, ◌-◌, ◌*◌, ◌/◌, ◌≤◌}
 use native.Mathlib.Omega.{arith}
 use mathlib.Core.Path.{◌≡◌, refl, sym, ap, ◌∙◌, subst}
 use mathlib.Core.Bool.{Bool, true, false}
 use mathlib.Core.List.{List, [], ◌∷◌, map}
 use mathlib.Core.Option.{Option, none, some}
 use lib.Dec.{eqb, ltb}
-use lib.ListN.{length, get_or, set}
-use lib.Seq.{get_or-set_other}
+use lib.ListN.{length, get_or}
 use borrow.Author.Tests.{le-ltb, ltb-true, ltb-false}
 use Rattle.subject_rules.specs.Choice.{pick}
 use Rattle.subject_rules.specs.Answers.{Answer, answer, unless}
@@ -17,21 +16,21 @@ use Rattle.sublist_tree.specs.Table.{Accepted}
 use Rattle.sublist_trie.proofs.Trie.{Trie, size, built}
 use Rattle.sublist_trie.proofs.Runs.{size_pos}
 use Rattle.sublist_trie.proofs.Ends.{ends_of}
-use Rattle.sublist_area_rules.specs.Words.{word}
 use Rattle.sublist_area_rules.specs.Growing.{planted}
 use Rattle.sublist_area_rules.proofs.Stores.{planted_behind}
 use Rattle.sublist_walk_rules.specs.Holds.{Holds}
 use Rattle.sublist_entries.specs.declared.Entry.{Entry}
 use Rattle.sublist_entries.specs.Entries.{text_of, target_word, read_from, lines_of}
 use Rattle.sublist_rules.specs.Building.{invalid, bad_entry, bad_entries, needed, worst_of, over_limit, build_says}
-use Rattle.sublist_rules.specs.Passes.{End, end, Growth, growth, stopped, lines_in, counted, count_word, start_word, node_worst, told, settled, laid_at, laid, filling, filled_by, filled, last_passes}
-use Rattle.sublist_rules.specs.Leaving.{finished, started, build_leaves}
-use Rattle.sublist_rules.proofs.Filling.{node_of}
+use Rattle.sublist_rules.specs.Passes.{End, Growth, growth, stopped, lines_in, settled, laid, filling, last_passes}
+use Rattle.sublist_rules.specs.Leaving.{started, build_leaves}
 use Rattle.sublist_rules.specs.Passes.{node_words_in, target_words_in}
 use Rattle.sublist_rules.proofs.Entering.{to_end}
 use Rattle.sublist_rules.proofs.Over.{within, not_over}
 use Rattle.sublist_rules.proofs.Standing.{target_end, stands, targets-kept}
 use Rattle.sublist_rules.proofs.Composed.{long, no_room, all_accepted, needs, ends-length, end-targets, entered}
+use Rattle.sublist_rules.proofs.Behind.{settled-left, laid-left, filled-left}
+use Rattle.sublist_rules.proofs.Keeping.{finished_keeps}
 
 -- what an accepted answer says
 pub record Taken (es : List Entry) (store : List ℕ) (room places : ℕ) : Type 0 where
@@ -85,46 +84,6 @@ taken es store room places generation vs e =
       record { few = ltb-false 2048 (length es) p; sound = q; fits = ltb-false room (needed store es) r; wide = ltb-false places (length es) s; fork = not_over (worst_of store es) t },
       cc,
     )
-
--- the words behind so many places are left
-abbrev Behind : List ℕ → List ℕ → ℕ → Type 0
-Behind b a from = (x : ℕ) → from ≤ x → get_or b x 0 ≡ get_or a x 0
-
-counted-left : (a : List ℕ) (j n : ℕ) (tail : Bool) → j < n → Behind (counted a j tail) a (n * 16)
-unfolding counted
-counted-left a j n true l x h = get_or-set_other a (j * 16 + 7) x ((word a j 7 + 1) % 4294967296) 0 (λ e. omega arith)
-counted-left a j n false l x h = get_or-set_other a (j * 16 + 5) x ((word a j 5 + 1) % 4294967296) 0 (λ e. omega arith)
-
-told-left : (a : List ℕ) (i p n : ℕ) → i < n → Behind (told a i p) a (n * 16)
-unfolding told
-told-left a i p n l x h = go (ltb p i) refl (eqb (word a p 3) i)
-  where
-    go : (b : Bool) → ltb p i ≡ b → (c : Bool) → get_or (pick b (pick c (set a (p * 16 + 4) (node_worst a i)) (set a (p * 16 + 6) (max (word a p 6) (node_worst a i)))) a) x 0 ≡ get_or a x 0
-    go true e true = let q = ltb-true p i e in get_or-set_other a (p * 16 + 4) x (node_worst a i) 0 (λ f. omega arith)
-    go true e false = let q = ltb-true p i e in get_or-set_other a (p * 16 + 6) x (max (word a p 6) (node_worst a i)) 0 (λ f. omega arith)
-    go false e c = refl
-
-settled-left : (m : ℕ) (a : List ℕ) (n : ℕ) → m < n → Behind (settled a m) a (n * 16)
-unfolding settled
-settled-left zero a n l x h = refl
-settled-left (suc m) a n l x h = settled-left m (told a (suc m) (word a (suc m) 12)) n (omega arith) x h ∙ told-left a (suc m) (word a (suc m) 12) n l x h
-
-laid-left : (left i : ℕ) (a : List ℕ) (from n : ℕ) → i + left ≤ n → Behind (laid a i left from) a (n * 16)
-unfolding laid laid_at
-laid-left zero i a from n l x h = refl
-laid-left (suc left) i a from n l x h =
-    laid-left left (suc i) (laid_at a i from) ((from + word a i 5 + word a i 7) % 4294967296) n (omega arith) x h
-    ∙ get_or-set_other (set (set (set a (i * 16 + 4) from) (i * 16 + 5) 0) (i * 16 + 6) ((from + word a i 5) % 4294967296)) (i * 16 + 7) x 0 0 (λ e. omega arith)
-    ∙ get_or-set_other (set (set a (i * 16 + 4) from) (i * 16 + 5) 0) (i * 16 + 6) x ((from + word a i 5) % 4294967296) 0 (λ e. omega arith)
-    ∙ get_or-set_other (set a (i * 16 + 4) from) (i * 16 + 5) x 0 0 (λ e. omega arith)
-    ∙ get_or-set_other a (i * 16 + 4) x from 0 (λ e. omega arith)
-
-filled-left : (es : List End) (xs a ts : List ℕ) (n : ℕ) → All (λ e. node_of e < n) es → Behind (node_words_in (filled (filling a ts) es xs)) a (n * 16)
-unfolding filled filled_by
-filled-left [] xs a ts n in_n x h = refl
-filled-left (e ∷ es) [] a ts n in_n x h = refl
-filled-left (end j tail ∷ es) (y ∷ xs) a ts n in_n x h =
-    filled-left es xs (counted a j tail) (set ts (word a j (start_word tail) + word a j (count_word tail)) y) n in_n.1 x h ∙ counted-left a j n tail in_n.0 x h
 
 -- an accepted build
 module _ (es : List Entry) (store a ts : List ℕ) (t : Taken es store (length a / 16) (length ts)) where
@@ -189,19 +148,6 @@ module _ (es : List Entry) (store a ts : List ℕ) (t : Taken es store (length a
       ap (λ f. get_or (target_words_in f) p 0) leaves_are
       ∙ ap (λ xs. get_or (target_words_in (last_passes (size T) b ts E xs)) p 0) (sym (end-targets es store t.few t.sound))
       ∙ targets-kept (lines_of store es) b m.2 ts (omega (arith, long-ends, t.wide)) (omega (arith, long-ends, t.few)) p (omega (arith, long-ends))
-
--- the last passes write targets only where neither 15 nor 16 applies and the first pass came through
-finished_keeps : (es : List Entry) (store ts : List ℕ) (g : Growth)
-    → (ltb (length ts) (length es) ≡ false → over_limit (worst_of store es) ≡ false → (n : ℕ) (a : List ℕ) (ends : List End) → g ≡ growth n a ends → ⊥)
-    → target_words_in (finished es store ts g) ≡ ts
-finished_keeps es store ts (stopped a) never = refl
-finished_keeps es store ts (growth n a ends) never = go (ltb (length ts) (length es)) refl (over_limit (worst_of store es)) refl
-  where
-    go : (b : Bool) → ltb (length ts) (length es) ≡ b → (c : Bool) → over_limit (worst_of store es) ≡ c
-        → target_words_in (pick b (filling a ts) (pick c (filling (settled a (n - 1)) ts) (last_passes n a ts ends (map target_word es)))) ≡ ts
-    go true e c f = refl
-    go false e true f = refl
-    go false e false f = absurd (never e f n a ends refl)
 
 -- a refused build leaves the targets
 pub refused-targets : (es : List Entry) (store a ts : List ℕ) (generation k : ℕ) (vs : List ℕ) → build_says es store (length a / 16) (length ts) generation ≡ answer (suc k) vs

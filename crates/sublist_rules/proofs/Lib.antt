@@ -1,5 +1,7 @@
 pub mod AcceptedEntries
 pub mod Answers
+pub mod Behind
+pub mod Keeping
 pub mod Builds
 pub mod Composed
 pub mod Entering

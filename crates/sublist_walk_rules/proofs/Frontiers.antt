@@ -306,7 +306,7 @@ module _ {K : Type 0} {eq : K → K → Bool} {P : K → Type 0} {look : ℕ →
       → walk_by look limit a n m ts hs ≡ found (walk eq hs (ls ∷ [])) (peak eq hs (ls ∷ []))
   unfolding walk_by left_at
   walk-holds_by hs smalls fits =
-      walks_on hs (0 ∷ []) [] 1 smalls (H.rooted, tt) (tt, tt) (omega arith) (rw top-is fits)
+      walks_on hs (0 ∷ []) [] _ smalls (H.rooted, tt) (tt, tt) (omega arith) (rw top-is fits)
       ∙ rw top-is (ap (λ p. found (walk eq hs (ls ∷ [])) p) (omega (arith, peak_front eq hs (ls ∷ []))))
     where
       top-is : N 0 ≡ ls

@@ -1,7 +1,7 @@
 -- `load_maker::make` meets its contract.
 use native.Mathlib.Omega.{arith}
 use mathlib.Core.Path.{sym}
-use Rattle.load_maker_rules.proofs.Exactly.{zero_says}
+use Rattle.load_maker_rules.proofs.Says.{zero_says}
 use Rattle.load_maker.proofs.Stages.{too_short, all_made}
 use Rattle.load_maker.proofs.make.Goals as goal
 

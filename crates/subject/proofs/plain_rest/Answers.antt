@@ -1,6 +1,6 @@
 use Rattle.std.proofs.Common.{sym, refl, ◌∙◌, ⊎_elim, arith, rules, le-leb}
 use borrow.Author.Tests.{lt-leb}
-use Rattle.subject.proofs.PlainTexts.{rest_end, rest_barred, rest_dots, rest_dot, rest_other}
+use Rattle.subject.proofs.PlainSteps.{rest_end, rest_barred, rest_dots, rest_dot, rest_other}
 use Rattle.subject.proofs.plain_rest.Goals as goal
 use Rattle.subject.proofs.plain_rest.Goals.{then-b-eq46+else-behind, else-b-eq46}
 
