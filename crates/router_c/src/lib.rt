@@ -1,6 +1,7 @@
 // The C calls of the router, on numbers and slices. Every call takes any numbers and bytes and asks nothing more.
 // Texts, texts made for a bench, lists, tables, and what a cabinet keeps: the snapshot and the cache.
 #![tactic(auto)]
+
 mod cabinet;
 mod lists;
 mod load;

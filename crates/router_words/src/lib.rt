@@ -1,5 +1,6 @@
 // The structs that the C calls take and give, and how the router's values become numbers and numbers its states.
 #![tactic(auto)]
+
 ghost use Rattle.std.specs.Prelude.{◌≡◌, [], ◌∷◌};
 ghost use Rattle.subject_rules.specs.Answers.{answer};
 ghost use Rattle.subject.specs.Answers.{refusal, parsed, matched, placed};
