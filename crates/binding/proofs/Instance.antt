@@ -26,7 +26,6 @@ use Rattle.sublist_rules.specs.Passes.{counted, joined, line_in, lines_in, told,
 use Rattle.sublist_rules.specs.Leaving.{build_leaves}
 use Rattle.sublist_snapshot.specs.Snapshot.{make}
 use Rattle.resolve_cache_rules.specs.Cache.{with_capacity}
-use Rattle.binding.specs.Calls.{store}
 use Rattle.binding.specs.Built.{BuiltFrom}
 use Rattle.binding.specs.Demand.{in_play, HashedApart, Premises, Opened, EachRight, start}
 use Rattle.binding.specs.Timetable.{texts, list_from, table_of, words_for, cabinet, five_entries, other_entries, every_call}

@@ -3,7 +3,7 @@
 --   resolve-ends     a walk gives list → the resolve hands back what is listed, and leaves the cache as it was if it turns back, else as left_by says
 --   adopted_keeps    Keeps P c a if c is on the generation → Keeps P of the cache that adopts it
 --   left_keeps       Keeps P e a → P subject list → the subject is not empty → Keeps P of what left_by says
-use Prim.Native.Nat.{ℕ, zero, suc, ◌*◌, ◌-◌, ◌≤◌, ◌<◌}
+use Prim.Native.Nat.{ℕ, zero, suc, ◌*◌, ◌≤◌, ◌<◌}
 use native.Mathlib.Omega.{arith}
 use mathlib.Core.Path.{◌≡◌, refl, sym, ap, subst}
 use mathlib.Core.Logic.{◌≢◌}
@@ -13,7 +13,7 @@ use mathlib.Core.Option.{Option, none, some}
 use lib.Dec.{eqb, ltb}
 use lib.ListN.{length, take, drop}
 use lib.Seq.{take-append_seam}
-use borrow.Author.Tests.{ltb-true, ltb-false, le-ltb, eqb-true, eqb-false, ne_eqb}
+use borrow.Author.Tests.{ltb-false, le-ltb, eqb-true, eqb-false, ne_eqb}
 use Rattle.subject_rules.specs.Choice.{pick, or}
 use Rattle.subject_rules.specs.Answers.{Answer, answer}
 use Rattle.subject_rules.specs.Grammar.{grammar}

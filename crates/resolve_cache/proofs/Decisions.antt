@@ -1,5 +1,5 @@
 -- The tests that lead to a decision say what the resolve is.
-use Rattle.std.proofs.Common.{◌≡◌, ℕ, zero, suc, ◌+◌, ◌<◌, ◌≤◌, Bool, true, false, eqb, ltb, List, [], ◌∷◌, length, get_or, sym, refl, ap, ◌∙◌, subst, arith, ltb-false, le-ltb, lt-ltb, eqb-true}
+use Rattle.std.proofs.Common.{◌≡◌, ℕ, zero, suc, ◌+◌, ◌<◌, ◌≤◌, Bool, true, false, eqb, ltb, List, [], ◌∷◌, length, get_or, sym, refl, ap, ◌∙◌, subst, arith, ltb-false, le-ltb, lt-ltb}
 use mathlib.Core.Option.{Option, none, some}
 use borrow.Author.Tests.{eqb-false}
 use Rattle.subject_rules.specs.Choice.{pick, or}
@@ -18,7 +18,7 @@ use Rattle.resolve_cache.specs.declared.ResolveAnswer.{ResolveAnswer}
 use Rattle.resolve_cache.specs.declared.ResolveAnswer.TheVariants.{CacheShort, BadSlot, Damaged, OutShort}
 use Rattle.resolve_cache.specs.declared.Decision.TheVariants.{Refuse, Hit}
 use Rattle.resolve_cache_rules.specs.Area.{Area, key_length, target_count}
-use Rattle.resolve_cache_rules.specs.Cache.{short, bad_slot, bad_from, bad, find_from, emptied, adopt, Resolved}
+use Rattle.resolve_cache_rules.specs.Cache.{short, bad_from, bad, find_from, emptied, adopt, Resolved}
 use Rattle.resolve_cache_rules.specs.Cache.{unchanged, work_by, work, if_accepted, resolve}
 use Rattle.resolve_cache.specs.Answers.{resolve_answer}
 use Rattle.resolve_cache_rules.specs.Ready.{Wide, Ready, Small}

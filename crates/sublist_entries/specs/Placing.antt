@@ -1,5 +1,5 @@
 -- Only private contracts cite this file. What the decision of an insert has the caller do.
-use Rattle.std.specs.Prelude.{ℕ, ◌≡◌, true, false, List, length}
+use Rattle.std.specs.Prelude.{ℕ, ◌≡◌, true, false, List}
 use Rattle.subject_rules.specs.Answers.{Answer, answer, unless}
 use Rattle.subject.specs.declared.Parsed.{Parsed}
 use Rattle.subject.specs.declared.Parsed.TheVariants.{Accepted, Refused}

@@ -4,7 +4,7 @@
 --   insert-same-entry      one that it accepts: kept behind the others; we then answer 10, 11 or the counts
 --   build-same             entries that 10, 12, 14, 15 do not meet, their texts UTF-8 of at most 4,096 bytes: the original's table, its lists, or its refusal (13, 16)
 --   match_same-refusal     a text that `parse_literal` refuses: its refusal, over any table
-use Prim.Native.Nat.{ℕ, ◌-◌, ◌/◌, ◌≤◌, ◌<◌}
+use Prim.Native.Nat.{ℕ, ◌/◌, ◌≤◌, ◌<◌}
 use native.Mathlib.Omega.{arith}
 use native.Mathlib.Decide.{dec_lt}
 use mathlib.Core.Path.{◌≡◌, refl, sym, ◌∙◌, ap, subst}

@@ -8,21 +8,20 @@ use mathlib.Core.Path.{◌≡◌, refl, sym, ◌∙◌, ap, subst}
 use mathlib.Core.Logic.{◌⊎◌, inl, inr}
 use mathlib.Core.Bool.{Bool, true, false}
 use mathlib.Core.List.{List, [], ◌∷◌, ◌++◌, map}
-use mathlib.Core.Option.{Option, none, some}
+use mathlib.Core.Option.{some}
 use lib.Dec.{ltb}
-use lib.ListN.{length, drop}
+use lib.ListN.{length}
 use borrow.Author.Tests.{lt-ltb, le-ltb, ltb-true, ltb-false}
 use Rattle.subject_rules.specs.Choice.{pick}
 use Rattle.subject_rules.specs.Answers.{Answer, answer}
 use Rattle.subject_rules.specs.Outputs.{over}
 use Rattle.sublist_tree.specs.Lists.{All}
-use Rattle.sublist_walk_rules.specs.Walk.{Walked}
 use Rattle.sublist_snapshot.specs.declared.Snapshot.{Snapshot}
 use Rattle.sublist_snapshot.specs.Snapshot.{stands_in, walk_of}
 use Rattle.binding.specs.declared.Resolution.{Resolution}
 use Rattle.binding.specs.declared.Resolution.TheVariants.{Routed}
-use Rattle.whole_move_rules.specs.Move.{Span, text_at, bad_subjects, routed, stopped, turned_down, Routes, targets, ended, routes, Moved, left, written, unless_refused, whole_move}
-use Rattle.whole_move_rules.specs.Asked.{Sound, OwnRefusal, IsRouted, RoutedTo, Ready, Asked, too_large, own_refusal, no_table, damaged, stops, out_short, writes, ByWalk, Fails, MoveAsked}
+use Rattle.whole_move_rules.specs.Move.{Span, text_at, bad_subjects, routed, stopped, turned_down, Routes, targets, ended, routes, Moved, left, written, whole_move}
+use Rattle.whole_move_rules.specs.Asked.{Sound, OwnRefusal, IsRouted, RoutedTo, Ready, too_large, own_refusal, no_table, damaged, stops, out_short, writes, ByWalk, Fails, MoveAsked}
 use Rattle.whole_move_rules.proofs.Subjects.{all_pass, earliest_refuses, Earliest, subjects_are}
 use Rattle.whole_move_rules.proofs.Verdicts.{come_stop, come_broken, come_all, Comes, every, stop, break, comes}
 

@@ -7,14 +7,13 @@ use Prim.Native.Nat.{ℕ, ◌+◌, ◌<◌, ◌^◌}
 use native.Mathlib.Omega.{arith}
 use native.Mathlib.Nat.{zero-add}
 use mathlib.Core.Path.{◌≡◌, refl, sym, ◌∙◌, ap, subst}
-use mathlib.Core.Bool.{Bool, true, false}
+use mathlib.Core.Bool.{Bool, true}
 use mathlib.Core.List.{List, [], ◌∷◌, ◌++◌, map, Memᴰ}
-use lib.ListN.{length}
 use Rattle.subject_rules.specs.Text.{tokens}
 use Rattle.subject_rules.specs.Fnv.{fnv}
 use Rattle.sublist_tree.specs.Lists.{concat, All}
 use Rattle.sublist_tree.specs.Table.{TableEntry, root_of, literals}
-use Rattle.sublist_walk_rules.specs.Walk.{found, failed}
+use Rattle.sublist_walk_rules.specs.Walk.{found}
 use Rattle.sublist_snapshot.specs.Snapshot.{Table, stands_in, walk_of}
 use Rattle.sublist_snapshot.proofs.Standing.{holds_stands}
 use Rattle.binding.specs.declared.Resolution.{Resolution}
@@ -24,7 +23,7 @@ use Rattle.binding.specs.Demand.{due, verdict_on, peak_due, Standing, start, sta
 use Rattle.binding.proofs.Tokens.{Within, within_all, all_left, all_right}
 use Rattle.binding.proofs.Interleaving.{Stands, stands_walk, step, more, start_stands}
 use Rattle.whole_move_rules.specs.Move.{Span, text_at, Moved, whole_move}
-use Rattle.whole_move_rules.specs.Asked.{Sound, IsRouted, RoutedTo, Ready, Asked, too_large, own_refusal, no_table, damaged, stops, out_short, writes, ByWalk, Fails}
+use Rattle.whole_move_rules.specs.Asked.{Sound, IsRouted, RoutedTo, Asked, too_large, own_refusal, no_table, damaged, stops, out_short, writes, ByWalk, Fails}
 use Rattle.whole_move_rules.specs.Steps.{Step, call, move, MoveRight, EachRight, Event, called, moved, step_of, Happened, AllRight, calls_in}
 use Rattle.whole_move_rules.proofs.Exactly.{move-asked, move-only}
 

@@ -1,19 +1,19 @@
 -- The scan for a subject's own refusal finds none exactly if every subject is sound, and else the earliest.
-use Prim.Native.Nat.{ℕ, zero, suc, ◌+◌, ◌≤◌, ◌<◌}
+use Prim.Native.Nat.{ℕ, zero, suc, ◌+◌}
 use native.Mathlib.Omega.{arith}
 use native.Mathlib.Nat.{add-zero}
 use mathlib.Core.Path.{◌≡◌, refl, sym, ◌∙◌, ap, subst}
 use mathlib.Core.Logic.{◌⊎◌, inl, inr}
 use mathlib.Core.Bool.{Bool, true, false}
 use mathlib.Core.List.{List, [], ◌∷◌, ◌++◌}
-use mathlib.Core.Option.{Option, none, some}
+use mathlib.Core.Option.{none, some}
 use lib.Dec.{ltb}
 use lib.ListN.{length}
 use borrow.Author.Tests.{lt-ltb, le-ltb, ltb-true, ltb-false}
 use Rattle.subject_rules.specs.Answers.{Answer, answer}
-use Rattle.subject_rules.specs.Grammar.{grammar, first_of}
+use Rattle.subject_rules.specs.Grammar.{grammar}
 use Rattle.sublist_tree.specs.Lists.{All}
-use Rattle.whole_move_rules.specs.Move.{Span, text_at, bad_text, bad_subject, bad_subjects}
+use Rattle.whole_move_rules.specs.Move.{Span, text_at, bad_subject, bad_subjects}
 use Rattle.whole_move_rules.specs.Asked.{Sound, OwnRefusal, outside, text_refused}
 
 -- the place of a subject behind one more

@@ -1,8 +1,8 @@
 -- The verdicts in turn: every subject's target, or the first subject that is not Routed.
-use Prim.Native.Nat.{ℕ, suc, ◌+◌}
+use Prim.Native.Nat.{ℕ, ◌+◌}
 use native.Mathlib.Omega.{arith}
 use native.Mathlib.Nat.{add-zero}
-use mathlib.Core.Path.{◌≡◌, refl, sym, ◌∙◌, ap, subst}
+use mathlib.Core.Path.{◌≡◌, refl, sym, ◌∙◌, ap}
 use mathlib.Core.List.{List, [], ◌∷◌, ◌++◌, map}
 use lib.ListN.{length}
 use Rattle.subject_rules.specs.Answers.{answer}
@@ -11,7 +11,6 @@ use Rattle.sublist_walk_rules.specs.declared.Failure.{Failure}
 use Rattle.sublist_walk_rules.specs.Walk.{Walked, found, failed}
 use Rattle.binding.specs.declared.Resolution.{Resolution}
 use Rattle.binding.specs.declared.Resolution.TheVariants.{Routed, NoStream, Ambiguous}
-use Rattle.binding.specs.Verdict.{single_home}
 use Rattle.binding.specs.Demand.{verdict_on}
 use Rattle.binding.proofs.Interleaving.{verdict_is}
 use Rattle.whole_move_rules.specs.Move.{Span, text_at, stopped, turned_down, Routes, targets, ended, before, on_verdict, on_walk, routes}

@@ -1,10 +1,8 @@
 -- Rows of ours: 2026-05's sentences on small tables, with its numbers written out; and steps of every kind.
-use Rattle.std.specs.Prelude.{ℕ, zero, suc, ◌*◌, ◌-◌, ◌^◌, ◌≡◌, List, [], ◌∷◌, ◌++◌, map, replicate}
+use Rattle.std.specs.Prelude.{ℕ, zero, suc, ◌-◌, ◌^◌, ◌≡◌, List, [], ◌∷◌, ◌++◌, map, replicate}
 use Prim.Native.Char.{code}
-use Prim.Native.String.{String}
 use Rattle.subject_rules.specs.Answers.{answer}
 use Rattle.sublist_tree.specs.Lists.{put}
-use Rattle.sublist_tree.specs.Table.{TableEntry}
 use Rattle.sublist_tree.specs.Timetable.{bytes, entry}
 use Rattle.sublist_snapshot.specs.declared.Snapshot.{Snapshot}
 use Rattle.sublist_snapshot.specs.Snapshot.{Table, first, copied}

@@ -1,6 +1,5 @@
 -- `resolve_cache::decide` meets its contract. Assumes nothing.
 use Rattle.std.proofs.Common.{◌≡◌, ◌≤◌, false, length, sym, ap, ◌∙◌, subst, arith}
-use borrow.Author.Tests.{not-true, not-false}
 use Rattle.resolve_cache_rules.specs.Cache.{short, bad, adopt, find_from}
 use Rattle.resolve_cache_rules.specs.Answers.{lent}
 use Rattle.resolve_cache.specs.Deciding.{seen, Decides}

@@ -1,4 +1,4 @@
-use Rattle.std.proofs.Common.{◌∙◌, ⊎_elim, arith, le-ltb, lt-ltb}
+use Rattle.std.proofs.Common.{◌∙◌, arith, le-ltb, lt-ltb}
 use native.Mathlib.Nat.{sub-zero}
 use Rattle.resolve_cache_rules.specs.Cache.{bad_from}
 use Rattle.resolve_cache.proofs.Marks.{bad_turn, bad-end}

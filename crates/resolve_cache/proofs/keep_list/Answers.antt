@@ -1,6 +1,5 @@
 -- `resolve_cache::keep_list` meets its contract. Assumes nothing.
 use Rattle.std.proofs.Common.{◌≡◌, true, sym, ◌∙◌, arith}
-use borrow.Author.Tests.{not-true, not-false}
 use Rattle.resolve_cache_rules.specs.Cache.{qualifies}
 use Rattle.resolve_cache_rules.specs.Answers.{lent}
 use Rattle.resolve_cache.proofs.Keeping.{kept_sizes, unkept, list-kept}

@@ -1,4 +1,4 @@
-use Rattle.std.proofs.Common.{◌≡◌, ℕ, ◌+◌, ◌-◌, ltb, List, refl, ◌∙◌, ⊎_elim, arith, le-ltb, lt-ltb}
+use Rattle.std.proofs.Common.{◌≡◌, ◌+◌, ◌-◌, ltb, refl, ◌∙◌, arith, le-ltb, lt-ltb}
 use Rattle.subject_rules.specs.Choice.{pick}
 use Rattle.resolve_cache_rules.specs.Area.{stamp_at}
 use Rattle.resolve_cache_rules.specs.Cache.{oldest_from}

@@ -5,7 +5,7 @@ use Rattle.subject_rules.specs.Answers.{Answer, when_accepted}
 use Rattle.subject.proofs.Refusals.{refused_stands}
 use Rattle.subject_rules.specs.Outputs.{outcome}
 use Rattle.sublist_snapshot.specs.declared.SnapshotMatch.{SnapshotMatch}
-use Rattle.sublist_snapshot.specs.declared.SnapshotMatch.TheVariants.{Listed, Invalid, Damaged, OutShort}
+use Rattle.sublist_snapshot.specs.declared.SnapshotMatch.TheVariants.{Invalid, Damaged, OutShort}
 use Rattle.sublist_snapshot.specs.Snapshot.{match_in}
 use Rattle.sublist_snapshot.specs.Answers.{snapshot_answer}
 use Rattle.sublist_snapshot.proofs.Fronts.{parsed_match}

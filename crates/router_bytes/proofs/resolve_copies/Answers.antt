@@ -1,5 +1,5 @@
 -- `router_bytes::resolve_copies` meets its contract: the numbers read from the bytes are theirs.
-use mathlib.Core.Path.{sym, ◌∙◌}
+use mathlib.Core.Path.{sym}
 use native.Mathlib.Omega.{arith}
 use Rattle.resolve_cache_rules.specs.Answers.{lent}
 use Rattle.router_bytes_rules.proofs.Spelled.{front, front_length}

@@ -1,6 +1,5 @@
 use Rattle.std.proofs.Common.{◌∙◌, arith}
 use Rattle.subject.proofs.Sequences.{eight_past, end-past}
-use borrow.Author.Tests.{not-false}
 use Rattle.subject.proofs.ascii_front.Goals as goal
 
 pub loop-at-init : goal.loop-at-init

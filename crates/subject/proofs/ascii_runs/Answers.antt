@@ -1,6 +1,5 @@
 use Rattle.std.proofs.Common.{refl, ◌∙◌, arith}
 use Rattle.subject_rules.specs.Utf8.{first_bad}
-use borrow.Author.Tests.{not-false}
 use Rattle.subject.proofs.ascii_runs.Goals as goal
 
 pub loop-at-init : goal.loop-at-init

@@ -1,4 +1,4 @@
-use Rattle.std.proofs.Common.{⊎_elim, arith, rules}
+use Rattle.std.proofs.Common.{arith, rules}
 use Rattle.subject_rules.proofs.Chars.{count_dot, count_other, count-end}
 use Rattle.subject.proofs.depth.Goals as goal
 use Rattle.subject.proofs.depth.Goals.{then-text-i-eq46, else-text-i-eq46}

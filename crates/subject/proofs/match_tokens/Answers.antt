@@ -1,5 +1,4 @@
 use Rattle.std.proofs.Common.{arith}
-use borrow.Author.Tests.{not-true, not-false}
 use Rattle.subject.proofs.Positions.{tokens-start}
 use Rattle.subject.proofs.Places.{part-found, end-found}
 use Rattle.subject.proofs.Fitting.{pattern-used, at_tail, subject-used, at_misfit, at_fit}

@@ -1,4 +1,4 @@
-use Rattle.std.proofs.Common.{sym, refl, ◌∙◌, ⊎_elim, arith, rules, le-leb}
+use Rattle.std.proofs.Common.{sym, refl, ◌∙◌, arith, rules, le-leb}
 use borrow.Author.Tests.{lt-leb}
 use Rattle.subject.proofs.PlainSteps.{rest_end, rest_barred, rest_dots, rest_dot, rest_other}
 use Rattle.subject.proofs.plain_rest.Goals as goal

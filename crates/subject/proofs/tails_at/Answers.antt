@@ -1,5 +1,4 @@
 use Rattle.std.proofs.Common.{sym, ◌∙◌, arith}
-use borrow.Author.Tests.{not-true, not-false}
 use Rattle.subject.proofs.Leads.{tail-out, tail-one, tail_two}
 use Rattle.subject.proofs.tails_at.Goals as goal
 

@@ -1,5 +1,4 @@
 use Rattle.std.proofs.Common.{true, false, sym, ◌∙◌, arith, rules}
-use borrow.Author.Tests.{not-true, not-false}
 use Rattle.sublist.proofs.Alike.{from_start, end-left, end-right, from_next}
 use Rattle.sublist.proofs.Cutting.{end-met, part_bounds, part-met}
 use Rattle.sublist.proofs.shared_run.Goals as goal

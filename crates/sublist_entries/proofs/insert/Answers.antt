@@ -1,5 +1,5 @@
 -- `sublist_entries::insert` meets its contract. Assumes nothing.
-use Rattle.std.proofs.Common.{◌<◌, length, sym, subst, T, not, arith, rules}
+use Rattle.std.proofs.Common.{◌<◌, length, sym, subst, T, not, rules}
 use Rattle.sublist_entries.proofs.Deciding.{entry-written, entry_unwritten}
 use Rattle.sublist_entries.proofs.insert.Goals as goal
 

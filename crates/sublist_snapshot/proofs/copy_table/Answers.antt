@@ -1,7 +1,6 @@
 -- `sublist_snapshot::copy_table` meets its contract. Assumes nothing.
 use Rattle.std.proofs.Common.{◌≡◌, ◌+◌, ◌*◌, true, length, sym, ap, ◌∙◌, arith, le-ltb, lt-ltb}
 use lib.Seq.{paste}
-use borrow.Author.Tests.{not-true, not-false}
 use Rattle.sublist_walk_rules.specs.Matching.{counts_fit}
 use Rattle.sublist_snapshot.specs.declared.Copied.TheVariants.{Done}
 use Rattle.sublist_snapshot.specs.Copying.{left_copied}

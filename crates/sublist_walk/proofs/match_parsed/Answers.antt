@@ -2,7 +2,6 @@
 use borrow.Enum.Refused.{opened}
 use native.Mathlib.Omega.{arith}
 use mathlib.Core.Path.{sym, ◌∙◌}
-use borrow.Author.Tests.{not-true, not-false}
 use Rattle.sublist_walk.proofs.Writing.{parsed_1, parsed_19, parsed-counted, counts_targets, narrow_answers, wide-answers}
 use Rattle.sublist_walk.proofs.match_parsed.Goals as goal
 

@@ -5,7 +5,6 @@ use native.Mathlib.Omega.{arith}
 use mathlib.Core.Path.{◌≡◌, sym, ◌∙◌}
 use mathlib.Core.Bool.{true}
 use lib.ListN.{length}
-use borrow.Author.Tests.{not-true, not-false}
 use Rattle.sublist_snapshot.specs.Snapshot.{stands_in}
 use Rattle.whole_move_rules.specs.Move.{spans_in}
 use Rattle.whole_move.proofs.Spans.{spans_length}
