@@ -1,11 +1,13 @@
-//! Links the proved static library. ROUTER_LIB_DIR names a folder that has it. Where it is not set, `rt staticlib router_c` proves and builds it,
+//! Links the proved static library. ROUTER_LIB_DIR names a folder that has it, as librouter_c.a. Where it is not set, `rt lib` proves and builds it,
 //! unless the same toolchain has built it here from the same sources before.
 use std::collections::BTreeSet;
 use std::path::{Path, PathBuf};
 use std::process::{exit, Command};
 use std::{env, fs, io};
 
-const CRATE: &str = "router_c";
+/// The crate of the exports, and its archive as `rt lib` leaves it there. It is linked under the name of the crate whose calls it exports.
+const CRATE: &str = "router_c_c";
+const MADE: &str = "out/librouter_c_c.a";
 const ARCHIVE: &str = "librouter_c.a";
 
 /// The folders of a crate that its proof is about.
@@ -55,14 +57,14 @@ fn toolchain() -> Vec<u8> {
     }
 }
 
-/// The crate that is linked, and all that it needs, by the lines `NAME: DEP DEP ..` of crates.txt.
+/// The crate that is linked, and all that it needs, by the lines `NAME: DEP DEP ..` of crates.txt. Behind a static library's name stands a word.
 fn needed(lines: &str) -> BTreeSet<&str> {
     let mut needed = BTreeSet::new();
     let mut ahead = vec![CRATE];
     while let Some(name) = ahead.pop() {
         if needed.insert(name) {
             let lines = lines.lines().filter_map(|line| line.split_once(':'));
-            let own = lines.filter(|(listed, _)| listed.trim() == name);
+            let own = lines.filter(|(head, _)| head.split_whitespace().next() == Some(name));
             ahead.extend(own.flat_map(|(_, deps)| deps.split_whitespace()));
         }
     }
@@ -106,21 +108,34 @@ fn sources(root: &Path) -> io::Result<Vec<u8>> {
     Ok(sources)
 }
 
-/// Builds the library where the sources are other than those kept beside its copy. The copy lies where `rt ci`, which removes target/, does not reach it.
+/// Has the build run again where a source changes, but not where `rt` writes into a crate's out/.
+fn watch_sources(root: &Path) -> io::Result<()> {
+    let listed = root.join("crates.txt");
+    watch(&listed);
+    for name in needed(&fs::read_to_string(listed)?) {
+        for part in PARTS.map(|part| root.join("crates").join(name).join(part)) {
+            if part.is_dir() {
+                watch(&part);
+            }
+        }
+    }
+    Ok(())
+}
+
+/// Builds the library where the sources are other than those kept beside its copy. The copy lies where `rt ci`, which sets each out/ aside, does not reach it.
 fn built(root: &Path, folder: PathBuf) -> PathBuf {
-    watch(&root.join("crates"));
-    watch(&root.join("crates.txt"));
+    watch_sources(root).expect("the list of crates can be read");
     let (copy, kept) = (folder.join(ARCHIVE), folder.join("sources"));
     let sources = sources(root).expect("the crates can be read");
     if copy.is_file() && fs::read(&kept).is_ok_and(|kept| kept == sources) {
         return folder;
     }
-    let done = rt(&["staticlib", CRATE]).current_dir(root).status();
+    let exports = root.join("crates").join(CRATE);
+    let done = rt(&["lib"]).current_dir(&exports).status();
     if !done.is_ok_and(|status| status.success()) {
-        stop("rt staticlib router_c: the router's library is not proved or not built");
+        stop("rt lib in crates/router_c_c: the router's library is not proved or not built");
     }
-    let made = root.join("target/staticlib").join(ARCHIVE);
-    fs::copy(&made, &copy).expect("the archive can be copied");
+    fs::copy(exports.join(MADE), &copy).expect("the archive can be copied");
     fs::write(&kept, sources).expect("the sources can be kept");
     folder
 }

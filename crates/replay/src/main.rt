@@ -11,7 +11,10 @@
 //
 // The folder host/compare/src/bin/record has the form: recording.rs that of every record, calls.rs the kinds.
 #![tactic(auto)]
+
 use router_c::{CAnswer, CCache, CMadeSnapshot, CResolved, CSnapshot, CStored};
+use std::io;
+use std::io::Read;
 
 // ---- The areas that the calls are lent: room for 1,026 entries, for the 2,049 nodes of their table, and for eight
 // slots of each cache.
@@ -768,8 +771,8 @@ const COUNTS: usize = 20;
 
 type Tally = [u64; COUNTS];
 
-fn say(text: &[u8]) {
-    io::write_all(1, text);
+fn say(rt: &impl Print, text: &[u8]) -> io::Result<()> {
+    rt.write_all(text)
 }
 
 // One more at a place.
@@ -787,51 +790,71 @@ fn counted(tally: &Tally, place: usize) -> u64 {
     0
 }
 
-fn say_value(text: &[u8], n: u64) {
-    say(text);
-    io::print_decimal(1, n);
+fn say_value(rt: &impl Print, text: &[u8], n: u64) -> io::Result<()> {
+    say(rt, text)?;
+    print!(rt; "{n}")
 }
 
-fn say_difference(record: u64, at: usize, came: u64, recorded: u64) {
-    say_value(b"record ", record);
-    say_value(b", at ", at as u64);
-    say_value(b": ", came);
-    say_value(b", recorded ", recorded);
-    say(b"\n");
+fn say_difference(
+    rt: &impl Print,
+    record: u64,
+    at: usize,
+    came: u64,
+    recorded: u64,
+) -> io::Result<()> {
+    say_value(rt, b"record ", record)?;
+    say_value(rt, b", at ", at as u64)?;
+    say_value(rt, b": ", came)?;
+    say_value(rt, b", recorded ", recorded)?;
+    say(rt, b"\n")
 }
 
 // Counts and says a difference at a place of the record, unless what came out is what is recorded.
-fn hold(tally: &mut Tally, at: usize, came: u64, recorded: u64) {
+fn hold(rt: &impl Print, tally: &mut Tally, at: usize, came: u64, recorded: u64) -> io::Result<()> {
     if came == recorded {
-        return;
+        return Ok(());
     }
     count(tally, DIFFERENCES);
-    say_difference(counted(tally, RECORDS), at, came, recorded);
+    say_difference(rt, counted(tally, RECORDS), at, came, recorded)
 }
 
-fn hold_word(tally: &mut Tally, record: &[u8], at: usize, came: u64) {
-    hold(tally, at, came, word_at(record, at) as u64);
+fn hold_word(
+    rt: &impl Print,
+    tally: &mut Tally,
+    record: &[u8],
+    at: usize,
+    came: u64,
+) -> io::Result<()> {
+    hold(rt, tally, at, came, word_at(record, at) as u64)
 }
 
-fn hold_number(tally: &mut Tally, record: &[u8], at: usize, came: u64) {
-    if at != NOWHERE {
-        hold(tally, at, came, number_at(record, at));
+fn hold_number(
+    rt: &impl Print,
+    tally: &mut Tally,
+    record: &[u8],
+    at: usize,
+    came: u64,
+) -> io::Result<()> {
+    if at == NOWHERE {
+        return Ok(());
     }
+    hold(rt, tally, at, came, number_at(record, at))
 }
 
 // Counts a record, and holds an answer to it.
-fn hold_answer(tally: &mut Tally, record: &[u8], a: CAnswer) {
+fn hold_answer(rt: &impl Print, tally: &mut Tally, record: &[u8], a: CAnswer) -> io::Result<()> {
     count(tally, RECORDS);
     count(tally, kind_of(record));
-    hold(tally, NUMBER, a.number, byte_at(record, NUMBER) as u64);
-    hold_word(tally, record, FIRST, a.first);
-    hold_word(tally, record, SECOND, a.second);
+    hold(rt, tally, NUMBER, a.number, byte_at(record, NUMBER) as u64)?;
+    hold_word(rt, tally, record, FIRST, a.first)?;
+    hold_word(rt, tally, record, SECOND, a.second)?;
     hold_number(
+        rt,
         tally,
         record,
         generation_at(kind_of(record), a.number),
         a.third,
-    );
+    )
 }
 
 fn target_at(out: &Targets, at: usize) -> u32 {
@@ -842,14 +865,20 @@ fn target_at(out: &Targets, at: usize) -> u32 {
 }
 
 // Holds the targets that the output starts with to those from a place of the record on.
-fn hold_targets(tally: &mut Tally, record: &[u8], at: usize, count: u16, out: &Targets) {
+fn hold_targets(
+    rt: &impl Print,
+    tally: &mut Tally,
+    record: &[u8],
+    at: usize,
+    count: u16,
+    out: &Targets,
+) -> io::Result<()> {
     let mut place = at;
-    let mut i: u16 = 0;
-    while i < count {
-        hold_word(tally, record, place, target_at(out, i as usize) as u64);
+    for i in 0..count {
+        hold_word(rt, tally, record, place, target_at(out, i as usize) as u64)?;
         place = ahead(place, 4);
-        i += 1;
     }
+    Ok(())
 }
 
 // The length of the list of an answer.
@@ -861,41 +890,58 @@ fn length_of(a: CAnswer) -> u64 {
 }
 
 // Holds a list, which the output starts with.
-fn hold_list(tally: &mut Tally, record: &[u8], a: CAnswer, out: &Targets) {
+fn hold_list(
+    rt: &impl Print,
+    tally: &mut Tally,
+    record: &[u8],
+    a: CAnswer,
+    out: &Targets,
+) -> io::Result<()> {
     let at = list_at(kind_of(record));
     if at == NOWHERE {
-        return;
+        return Ok(());
     }
     let count = short_at(record, at);
-    hold(tally, at, length_of(a), count as u64);
-    hold_targets(tally, record, ahead(at, 2), count, out);
+    hold(rt, tally, at, length_of(a), count as u64)?;
+    hold_targets(rt, tally, record, ahead(at, 2), count, out)
 }
 
 // A cache as a call left it.
-fn hold_cache(tally: &mut Tally, record: &[u8], given: CResolved) {
-    hold_word(tally, record, SUBJECTS, given.used);
-    hold_number(tally, record, WALKS, given.walks);
-    hold_number(tally, record, GENERATION, given.generation);
+fn hold_cache(
+    rt: &impl Print,
+    tally: &mut Tally,
+    record: &[u8],
+    given: CResolved,
+) -> io::Result<()> {
+    hold_word(rt, tally, record, SUBJECTS, given.used)?;
+    hold_number(rt, tally, record, WALKS, given.walks)?;
+    hold_number(rt, tally, record, GENERATION, given.generation)
 }
 
 // What a call left, besides its answer and its list.
-fn hold_state(tally: &mut Tally, record: &[u8], state: State) {
+fn hold_state(rt: &impl Print, tally: &mut Tally, record: &[u8], state: State) -> io::Result<()> {
     let snapshot = state.snapshot;
     if kind_of(record) == STORE {
-        hold_number(tally, record, CALL_AND_GENERATION, snapshot.generation);
-        return;
+        return hold_number(rt, tally, record, CALL_AND_GENERATION, snapshot.generation);
     }
     if is_on_cache(record) {
         let cache = cache_in(record, state);
-        hold_cache(tally, record, cache.given);
+        return hold_cache(rt, tally, record, cache.given);
     }
+    Ok(())
 }
 
 // Holds what a call gave to its record.
-fn hold_record(tally: &mut Tally, record: &[u8], state: State, out: &Targets) {
-    hold_answer(tally, record, state.answer);
-    hold_list(tally, record, state.answer, out);
-    hold_state(tally, record, state);
+fn hold_record(
+    rt: &impl Print,
+    tally: &mut Tally,
+    record: &[u8],
+    state: State,
+    out: &Targets,
+) -> io::Result<()> {
+    hold_answer(rt, tally, record, state.answer)?;
+    hold_list(rt, tally, record, state.answer, out)?;
+    hold_state(rt, tally, record, state)
 }
 
 // ---- The whole recording.
@@ -905,6 +951,7 @@ const FIRST_RECORD: usize = 8;
 
 // Makes the call of the record at a place and holds what it gives. Each part takes the records of its kinds alone.
 fn replay_next(
+    rt: &impl Print,
     tally: &mut Tally,
     recording: &[u8],
     at: usize,
@@ -915,18 +962,19 @@ fn replay_next(
     targets: &mut Targets,
     area: &mut Area,
     out: &mut Targets,
-) -> State {
+) -> io::Result<State> {
     let record = text_at(recording, at);
     let mut state = on_texts(record, before, out);
     state = on_list(record, state, words, store, nodes, targets, out);
     state = on_snapshot(record, state, nodes, targets, area, out);
     state = on_cache(record, state, area, out);
-    hold_record(tally, record, state, out);
-    state
+    hold_record(rt, tally, record, state, out)?;
+    Ok(state)
 }
 
 // All records. The place behind them.
 fn replay_all(
+    rt: &impl Print,
     tally: &mut Tally,
     recording: &[u8],
     words: &mut Words,
@@ -935,62 +983,63 @@ fn replay_all(
     targets: &mut Targets,
     area: &mut Area,
     out: &mut Targets,
-) -> usize {
+) -> io::Result<usize> {
     let mut state = fresh();
     let mut at = FIRST_RECORD;
-    let mut records = number_at(recording, 0);
-    while 0 < records {
-        records -= 1;
+    let records = number_at(recording, 0);
+    for _ in 0..records {
         state = replay_next(
-            tally, recording, at, state, words, store, nodes, targets, area, out,
-        );
+            rt, tally, recording, at, state, words, store, nodes, targets, area, out,
+        )?;
         at = after_text(recording, at);
     }
-    at
+    Ok(at)
 }
 
 // Says a byte, before an end of a line the number at a place. The next place.
-fn say_byte(tally: &Tally, byte: u8, place: usize) -> usize {
+fn say_byte(rt: &impl Print, tally: &Tally, byte: u8, place: usize) -> io::Result<usize> {
     if byte == b'\n' {
-        say_value(b" ", counted(tally, place));
-        say(b"\n");
-        return ahead(place, 1);
+        say_value(rt, b" ", counted(tally, place))?;
+        say(rt, b"\n")?;
+        return Ok(ahead(place, 1));
     }
-    say(&[byte]);
-    place
+    say(rt, &[byte])?;
+    Ok(place)
 }
 
 // Says a text, a number of the tally before each end of a line: those from a place on.
-fn say_counts(tally: &Tally, lines: &[u8], first: usize) {
+fn say_counts(rt: &impl Print, tally: &Tally, lines: &[u8], first: usize) -> io::Result<()> {
     let mut place = first;
-    let mut i = 0;
-    while i < lines.len() {
-        place = say_byte(tally, lines[i], place);
-        i += 1;
+    for byte in lines {
+        place = say_byte(rt, tally, *byte, place)?;
     }
+    Ok(())
 }
 
-fn report(tally: &Tally) {
+fn report(rt: &impl Print, tally: &Tally) -> io::Result<()> {
     say_counts(
+        rt,
         tally,
         b"parse_literal\nparse\nmatches\nsingle_home\nnew list\ninsert\nbuild\n",
         PARSE_LITERAL,
-    );
+    )?;
     say_counts(
+        rt,
         tally,
         b"match in the table\nnew snapshot\nempty snapshot\nstore\nmatch in the snapshot\n",
         MATCH_TABLE,
-    );
+    )?;
     say_counts(
+        rt,
         tally,
         b"resolve_single_home\nnew cache\nclear\nresolve\nresolve_single_home_cached\n",
         VERDICT,
-    );
-    say_counts(tally, b"records\ndifferences\n", RECORDS);
+    )?;
+    say_counts(rt, tally, b"records\ndifferences\n", RECORDS)
 }
 
 // Lends the areas.
-fn replay(recording: &[u8], tally: &mut Tally) -> usize {
+fn replay(rt: &impl Print, recording: &[u8], tally: &mut Tally) -> io::Result<usize> {
     let mut words = [0usize; ENTRY_NUMBERS];
     let mut store = [0u8; STORE_BYTES];
     let mut nodes = [0u32; NODE_WORDS];
@@ -998,6 +1047,7 @@ fn replay(recording: &[u8], tally: &mut Tally) -> usize {
     let mut area = [0u32; AREA_WORDS];
     let mut out = [0u32; ENTRIES];
     replay_all(
+        rt,
         tally,
         recording,
         &mut words,
@@ -1010,22 +1060,22 @@ fn replay(recording: &[u8], tally: &mut Tally) -> usize {
 }
 
 // Replays a recording, whose last record is to end where it ends, and reports.
-fn replay_and_report(recording: &[u8]) {
+fn replay_and_report(rt: &impl Print, recording: &[u8]) -> io::Result<()> {
     let mut tally = [0u64; COUNTS];
-    let end = replay(recording, &mut tally);
-    hold(&mut tally, end, recording.len() as u64, end as u64);
-    report(&tally);
+    let end = replay(rt, recording, &mut tally)?;
+    hold(rt, &mut tally, end, recording.len() as u64, end as u64)?;
+    report(rt, &tally)
 }
 
 // Room for a recording.
 const RECORDING_BYTES: usize = 262144;
 
-fn read_and_replay(room: &mut [u8]) {
-    let n = io::read_full(0, room);
-    replay_and_report(first_bytes(room, n));
+fn read_and_replay(rt: &(impl Input + Print), room: &mut Vec<u8>) -> io::Result<()> {
+    rt.reader().take(RECORDING_BYTES as u64).read_to_end(room)?;
+    replay_and_report(rt, room.as_slice())
 }
 
-fn main() {
-    let mut recording = [0u8; RECORDING_BYTES];
-    read_and_replay(&mut recording);
+fn main(rt: HostRuntime) -> io::Result<()> {
+    let mut recording = Vec::new(rt.alloc());
+    read_and_replay(&rt, &mut recording)
 }

@@ -20,8 +20,7 @@ use sublist_snapshot::{Generation, Snapshot, Sublist};
 
 // A snapshot of a first table, whose words are copied to the area, stamped 0; the generation that build gave it is not
 // used. Its state, or why not.
-#[unsafe(no_mangle)]
-pub extern "C" fn router_snapshot_new(
+pub fn router_snapshot_new(
     nodes: usize,
     targets: usize,
     generation: u64,
@@ -42,16 +41,14 @@ pub extern "C" fn router_snapshot_new(
 }
 
 // A snapshot of the table of no entries: its state, or why not.
-#[unsafe(no_mangle)]
-pub extern "C" fn router_snapshot_empty(area: &mut [u32]) -> CMadeSnapshot
+pub fn router_snapshot_empty(area: &mut [u32]) -> CMadeSnapshot
     ensures { Makes result area.new (make_empty area.old) }
 {
     router_words::to_c_made(Snapshot::empty(area))
 }
 
 // A table takes the place of the standing one, stamped with the counter; the generation that build gave it is not used.
-#[unsafe(no_mangle)]
-pub extern "C" fn router_store(
+pub fn router_store(
     snapshot: CSnapshot,
     nodes: usize,
     targets: usize,
@@ -75,8 +72,7 @@ pub extern "C" fn router_store(
 
 // The targets that a subject matches in the standing table, written over the first places of the output.
 // The answer has their number, the peak and the generation, or why not.
-#[unsafe(no_mangle)]
-pub extern "C" fn router_snapshot_match(
+pub fn router_snapshot_match(
     snapshot: CSnapshot,
     area: &[u32],
     subject: &[u8],
@@ -90,21 +86,14 @@ pub extern "C" fn router_snapshot_match(
 }
 
 // A fresh cache of so many slots in the lent areas, a stamp, 260 bytes and 16 targets a slot, or why not.
-#[unsafe(no_mangle)]
-pub extern "C" fn router_cache_new(
-    capacity: usize,
-    stamps: &[u64],
-    keys: &[u8],
-    kept: &[u32],
-) -> CMadeCache
+pub fn router_cache_new(capacity: usize, stamps: &[u64], keys: &[u8], kept: &[u32]) -> CMadeCache
     ensures { SaysMadeCache result (with_capacity capacity (lent stamps.now keys.now kept.now)) }
 {
     router_words::to_c_made_cache(ResolveCache::with_capacity(capacity, stamps, keys, kept))
 }
 
 // The cache emptied; generation and walks remain.
-#[unsafe(no_mangle)]
-pub extern "C" fn router_cache_clear(cache: CCache) -> CCache
+pub fn router_cache_clear(cache: CCache) -> CCache
     ensures { cache_of result ≡ clear (cache_of cache) }
 {
     let own = router_words::from_c_cache(cache);
@@ -113,8 +102,7 @@ pub extern "C" fn router_cache_clear(cache: CCache) -> CCache
 
 // The targets of a subject, from the cache or by a walk of the standing table.
 // The answer: where the list lies (0 in `kept`, 1 in `out`), its first place and length, or why not; then the cache.
-#[unsafe(no_mangle)]
-pub extern "C" fn router_resolve(
+pub fn router_resolve(
     cache: CCache,
     stamps: &mut [u64],
     keys: &mut [u8],
@@ -149,8 +137,7 @@ fn to_c_bytes_resolved(r: BytesResolved) -> CResolved
 // The resolve on areas of bytes, lowest byte of a number first; whole numbers count.
 // Eight bytes are a number of `stamps`, four a word of the others.
 // 99 if stamps, kept, area and out are together more than 65,536 bytes.
-#[unsafe(no_mangle)]
-pub extern "C" fn router_resolve_bytes(
+pub fn router_resolve_bytes(
     cache: CCache,
     stamps: &mut [u8],
     keys: &mut [u8],
@@ -171,16 +158,14 @@ pub extern "C" fn router_resolve_bytes(
 }
 
 // The verdict on a list.
-#[unsafe(no_mangle)]
-pub extern "C" fn router_single_home(list: &[u32]) -> CAnswer
+pub fn router_single_home(list: &[u32]) -> CAnswer
     ensures { Says result (verdict_answer (single_home list.now) []) }
 {
     router_words::to_c_resolution(binding::single_home(list))
 }
 
 // The verdict on the list that a match through the snapshot writes over the first places of the output, or why not.
-#[unsafe(no_mangle)]
-pub extern "C" fn router_resolve_single_home(
+pub fn router_resolve_single_home(
     snapshot: CSnapshot,
     area: &[u32],
     subject: &[u8],
@@ -194,8 +179,7 @@ pub extern "C" fn router_resolve_single_home(
 }
 
 // The verdict on the list that a resolve hands back, or why not; then the cache afterwards.
-#[unsafe(no_mangle)]
-pub extern "C" fn router_resolve_single_home_cached(
+pub fn router_resolve_single_home_cached(
     cache: CCache,
     stamps: &mut [u64],
     keys: &mut [u8],
@@ -219,8 +203,7 @@ pub extern "C" fn router_resolve_single_home_cached(
 // Up to 64 subjects routed together by the standing table; two numbers a subject say where it lies in the bytes, start
 // and length. The answer: 0, 0 and how many targets are written over the first places of the output, one a subject in
 // their order; or 0, 1, the place of the first subject that is not Routed, and its verdict; or why not.
-#[unsafe(no_mangle)]
-pub extern "C" fn router_whole_move(
+pub fn router_whole_move(
     snapshot: CSnapshot,
     area: &[u32],
     bytes: &[u8],

@@ -1,4 +1,5 @@
 // The C calls of the router, on numbers and slices. Every call takes any numbers and bytes and asks nothing more.
+// `router_c_c` exports them to C.
 // Texts, texts made for a bench, lists, tables, and what a cabinet keeps: the snapshot and the cache.
 #![tactic(auto)]
 

@@ -7,8 +7,7 @@ use router_words::CAnswer;
 use sublist_entries::ListState;
 
 // A pattern and its target join a list. The answer has the entries and bytes in use afterwards.
-#[unsafe(no_mangle)]
-pub extern "C" fn router_insert(
+pub fn router_insert(
     entries: usize,
     used: usize,
     words: &mut [usize],
@@ -27,8 +26,7 @@ pub extern "C" fn router_insert(
 }
 
 // The table of a list, all its whole entries: node count, worst case and generation, or why not.
-#[unsafe(no_mangle)]
-pub extern "C" fn router_build(
+pub fn router_build(
     words: &[usize],
     store: &[u8],
     nodes: &mut [u32],

@@ -7,8 +7,7 @@ ghost use Rattle.router_words.specs.Words.{MakesText};
 use router_words::CMadeText;
 
 // One draw: the state after this one.
-#[unsafe(no_mangle)]
-pub extern "C" fn router_draw(state: u64) -> u64
+pub fn router_draw(state: u64) -> u64
     ensures { result ≡ draw state }
 {
     load_maker::draw(state)
@@ -16,16 +15,14 @@ pub extern "C" fn router_draw(state: u64) -> u64
 
 // A pattern is made from a state and written over the first places of the output: its length and the new state.
 // Or 28, or 21 with the length needed, and the state as lent.
-#[unsafe(no_mangle)]
-pub extern "C" fn router_make_pattern(state: u64, out: &mut [u8]) -> CMadeText
+pub fn router_make_pattern(state: u64, out: &mut [u8]) -> CMadeText
     ensures { MakesText result out.new (make true state out.old) }
 {
     router_words::to_c_made_text(load_maker::make_pattern(state, out))
 }
 
 // A subject, in the same way.
-#[unsafe(no_mangle)]
-pub extern "C" fn router_make_subject(state: u64, out: &mut [u8]) -> CMadeText
+pub fn router_make_subject(state: u64, out: &mut [u8]) -> CMadeText
     ensures { MakesText result out.new (make false state out.old) }
 {
     router_words::to_c_made_text(load_maker::make_subject(state, out))

@@ -9,8 +9,7 @@ use router_words::CAnswer;
 
 // The targets that a subject matches in a table, written over the first places of the output.
 // The answer has their number and the peak, or why not.
-#[unsafe(no_mangle)]
-pub extern "C" fn router_match(
+pub fn router_match(
     nodes: usize,
     targets: usize,
     node_words: &[u32],
@@ -44,8 +43,7 @@ fn to_c_bytes_match(m: BytesMatch) -> CAnswer
 
 // The match on areas of bytes, lowest byte of a word first; whole words count.
 // 99 if the three areas are together more than 65,536 bytes.
-#[unsafe(no_mangle)]
-pub extern "C" fn router_match_bytes(
+pub fn router_match_bytes(
     nodes: usize,
     targets: usize,
     node_bytes: &[u8],

@@ -12,24 +12,21 @@ ghost use Rattle.router_words.specs.Words.{Says, Writes, bit};
 use router_words::CAnswer;
 
 // A text as a literal subject: its token count, or why it is refused.
-#[unsafe(no_mangle)]
-pub extern "C" fn router_parse_literal(text: &[u8]) -> CAnswer
+pub fn router_parse_literal(text: &[u8]) -> CAnswer
     ensures { Says result (grammar false text.now) }
 {
     router_words::to_c_parsed(subject::parse_literal(text))
 }
 
 // A text as a pattern: its token count, or why it is refused.
-#[unsafe(no_mangle)]
-pub extern "C" fn router_parse(text: &[u8]) -> CAnswer
+pub fn router_parse(text: &[u8]) -> CAnswer
     ensures { Says result (grammar true text.now) }
 {
     router_words::to_c_parsed(subject::parse(text))
 }
 
 // Whether a pattern matches a subject, or why one of the two is refused.
-#[unsafe(no_mangle)]
-pub extern "C" fn router_matches(pattern: &[u8], subject: &[u8]) -> CAnswer
+pub fn router_matches(pattern: &[u8], subject: &[u8]) -> CAnswer
     ensures { Says result (matching pattern.now subject.now) }
 {
     router_words::to_c_matched(subject::matches(pattern, subject))
@@ -37,8 +34,7 @@ pub extern "C" fn router_matches(pattern: &[u8], subject: &[u8]) -> CAnswer
 
 // A shortest subject that two patterns both match, written over the first places of the output: 1 and its length; or 0.
 // Or why a pattern is refused, the first one first, or 21.
-#[unsafe(no_mangle)]
-pub extern "C" fn router_crossing(first: &[u8], second: &[u8], out: &mut [u8]) -> CAnswer
+pub fn router_crossing(first: &[u8], second: &[u8], out: &mut [u8]) -> CAnswer
     ensures { Writes result out.new
         (crossing first.now second.now out.old) }
 {
@@ -46,32 +42,28 @@ pub extern "C" fn router_crossing(first: &[u8], second: &[u8], out: &mut [u8]) -
 }
 
 // The hash of a token.
-#[unsafe(no_mangle)]
-pub extern "C" fn router_token_hash(token: &[u8]) -> u64
+pub fn router_token_hash(token: &[u8]) -> u64
     ensures { result ≡ fnv token.now }
 {
     subject::token_hash(token)
 }
 
 // The number of tokens of a text.
-#[unsafe(no_mangle)]
-pub extern "C" fn router_depth(text: &[u8]) -> u64
+pub fn router_depth(text: &[u8]) -> u64
     ensures { result ≡ length (tokens text.now) }
 {
     subject::depth(text) as u64
 }
 
 // Whether the last token of a text is `>`: 1 or 0.
-#[unsafe(no_mangle)]
-pub extern "C" fn router_has_tail_wildcard(text: &[u8]) -> u64
+pub fn router_has_tail_wildcard(text: &[u8]) -> u64
     ensures { result ≡ bit (ends_in_tail (tokens text.now)) }
 {
     subject::has_tail_wildcard(text) as u64
 }
 
 // Where token n of a text lies, counted from 0: 1, its first position and the one behind its last; or 0.
-#[unsafe(no_mangle)]
-pub extern "C" fn router_nth_token(text: &[u8], n: usize) -> CAnswer
+pub fn router_nth_token(text: &[u8], n: usize) -> CAnswer
     ensures { Says result (placed (place_in 0 (tokens text.now) n)) }
 {
     router_words::to_c_token(subject::nth_token(text, n))

@@ -3,7 +3,9 @@
 // vectors are those of the FNV reference code by Fowler, Noll and Vo. The draws are the first from Marsaglia's own
 // start; they and the texts come from a separate program.
 #![tactic(auto)]
+
 use router_c::{CAnswer, CMadeText};
+use std::io;
 
 // ---- The areas: room for the 1,024 runs of ten tokens and two entries more, and for the 2,049 nodes of their table.
 
@@ -86,21 +88,19 @@ fn build(entries: &[usize], store: &Store, nodes: &mut Nodes, targets: &mut Targ
 
 // ---- What is said.
 
-fn say(text: &[u8]) {
-    io::write_all(1, text);
+fn say(rt: &impl Print, text: &[u8]) -> io::Result<()> {
+    rt.write_all(text)
 }
 
-fn say_number(n: u64) {
-    say(b" ");
-    io::print_decimal(1, n);
+fn say_number(rt: &impl Print, n: u64) -> io::Result<()> {
+    print!(rt; " {n}")
 }
 
-fn say_whether(right: bool) {
+fn say_whether(rt: &impl Print, right: bool) -> io::Result<()> {
     if right {
-        say(b", right\n");
-        return;
+        return say(rt, b", right\n");
     }
-    say(b", WRONG\n");
+    say(rt, b", WRONG\n")
 }
 
 // Whether an answer has this number and these values.
@@ -118,103 +118,116 @@ fn is_answer(a: CAnswer, number: u64, first: u64, second: u64) -> bool {
 }
 
 // One line for an answer: its number and its values.
-fn row(name: &[u8], got: CAnswer, number: u64, first: u64, second: u64) {
-    say(name);
-    say_number(got.number);
-    say_number(got.first);
-    say_number(got.second);
-    say_whether(is_answer(got, number, first, second));
+fn row(
+    rt: &impl Print,
+    name: &[u8],
+    got: CAnswer,
+    number: u64,
+    first: u64,
+    second: u64,
+) -> io::Result<()> {
+    say(rt, name)?;
+    say_number(rt, got.number)?;
+    say_number(rt, got.first)?;
+    say_number(rt, got.second)?;
+    say_whether(rt, is_answer(got, number, first, second))
 }
 
 // One line for a hash.
-fn hash_row(text: &[u8], right: u64) {
+fn hash_row(rt: &impl Print, text: &[u8], right: u64) -> io::Result<()> {
     let got = token_hash(text);
-    say(b"hash of \"");
-    say(text);
-    say(b"\": ");
-    io::print_hex(1, got, 16);
-    say_whether(got == right);
+    say(rt, b"hash of \"")?;
+    say(rt, text)?;
+    print!(rt; "\": {got:016x}")?;
+    say_whether(rt, got == right)
 }
 
 // One line for a draw; the state behind it.
-fn draw_row(state: u64, right: u64) -> u64 {
+fn draw_row(rt: &impl Print, state: u64, right: u64) -> io::Result<u64> {
     let got = draw(state);
-    say(b"draw:");
-    say_number(got);
-    say_whether(got == right);
-    got
+    say(rt, b"draw:")?;
+    say_number(rt, got)?;
+    say_whether(rt, got == right)?;
+    Ok(got)
 }
 
 // One line for a text that was made, as long as the output; the state behind it.
-fn made_row(name: &[u8], out: &[u8], got: CMadeText, length: u64, state: u64) -> u64 {
-    say(name);
-    say(out);
-    say_number(got.number);
-    say_number(got.value);
-    say_number(got.state);
+fn made_row(
+    rt: &impl Print,
+    name: &[u8],
+    out: &[u8],
+    got: CMadeText,
+    length: u64,
+    state: u64,
+) -> io::Result<u64> {
+    say(rt, name)?;
+    say(rt, out)?;
+    say_number(rt, got.number)?;
+    say_number(rt, got.value)?;
+    say_number(rt, got.state)?;
     if got.value != length {
-        say_whether(false);
-        return got.state;
+        say_whether(rt, false)?;
+        return Ok(got.state);
     }
-    say_whether(got.state == state);
-    got.state
+    say_whether(rt, got.state == state)?;
+    Ok(got.state)
 }
 
-fn pattern_row(from: u64, length: u64, state: u64) -> u64 {
+fn pattern_row(rt: &impl Print, from: u64, length: u64, state: u64) -> io::Result<u64> {
     let mut out = [b'-'; MADE_TEXT];
     let got = make_pattern(from, &mut out);
-    made_row(b"pattern made: ", &out, got, length, state)
+    made_row(rt, b"pattern made: ", &out, got, length, state)
 }
 
-fn subject_row(from: u64, length: u64, state: u64) -> u64 {
+fn subject_row(rt: &impl Print, from: u64, length: u64, state: u64) -> io::Result<u64> {
     let mut out = [b'-'; MADE_TEXT];
     let got = make_subject(from, &mut out);
-    made_row(b"subject made: ", &out, got, length, state)
+    made_row(rt, b"subject made: ", &out, got, length, state)
 }
 
 // ---- The rows.
 
-fn depths() {
+fn depths(rt: &impl Print) -> io::Result<()> {
     let most = b"a.a.a.a.a.a.a.a.a.a.a.a.a.a.a.a.a.a.a.a.a.a.a.a.a.a.a.a.a.a.a.a";
-    row(b"32 tokens, a subject:", parse_literal(most), 0, 32, 0);
-    row(b"32 tokens, a pattern:", parse(most), 0, 32, 0);
+    row(rt, b"32 tokens, a subject:", parse_literal(most), 0, 32, 0)?;
+    row(rt, b"32 tokens, a pattern:", parse(most), 0, 32, 0)?;
     let deep = b"a.a.a.a.a.a.a.a.a.a.a.a.a.a.a.a.a.a.a.a.a.a.a.a.a.a.a.a.a.a.a.a.a";
-    row(b"33 tokens, a subject:", parse_literal(deep), 5, 33, 0);
-    row(b"33 tokens, a pattern:", parse(deep), 5, 33, 0);
+    row(rt, b"33 tokens, a subject:", parse_literal(deep), 5, 33, 0)?;
+    row(rt, b"33 tokens, a pattern:", parse(deep), 5, 33, 0)?;
     let tail = b"a.a.a.a.a.a.a.a.a.a.a.a.a.a.a.a.a.a.a.a.a.a.a.a.a.a.a.a.a.a.a.>.a";
-    row(b"> as 32nd of 33, a pattern:", parse(tail), 4, 31, 0);
+    row(rt, b"> as 32nd of 33, a pattern:", parse(tail), 4, 31, 0)
 }
 
-fn characters() {
-    row(b"bytes 61 C0 80:", parse_literal(b"a\xc0\x80"), 2, 1, 0);
-    row(b"bytes C2 80:", parse_literal(b"\xc2\x80"), 0, 1, 0);
-    row(b"byte 7F:", parse_literal(b"\x7f"), 8, 0x7f, 0);
+fn characters(rt: &impl Print) -> io::Result<()> {
+    row(rt, b"bytes 61 C0 80:", parse_literal(b"a\xc0\x80"), 2, 1, 0)?;
+    row(rt, b"bytes C2 80:", parse_literal(b"\xc2\x80"), 0, 1, 0)?;
+    row(rt, b"byte 7F:", parse_literal(b"\x7f"), 8, 0x7f, 0)
 }
 
-fn short_hashes() {
-    hash_row(b"", 0xcbf29ce484222325);
-    hash_row(b"a", 0xaf63dc4c8601ec8c);
-    hash_row(b"b", 0xaf63df4c8601f1a5);
-    hash_row(b"c", 0xaf63de4c8601eff2);
-    hash_row(b"d", 0xaf63d94c8601e773);
-    hash_row(b"e", 0xaf63d84c8601e5c0);
-    hash_row(b"f", 0xaf63db4c8601ead9);
+fn short_hashes(rt: &impl Print) -> io::Result<()> {
+    hash_row(rt, b"", 0xcbf29ce484222325)?;
+    hash_row(rt, b"a", 0xaf63dc4c8601ec8c)?;
+    hash_row(rt, b"b", 0xaf63df4c8601f1a5)?;
+    hash_row(rt, b"c", 0xaf63de4c8601eff2)?;
+    hash_row(rt, b"d", 0xaf63d94c8601e773)?;
+    hash_row(rt, b"e", 0xaf63d84c8601e5c0)?;
+    hash_row(rt, b"f", 0xaf63db4c8601ead9)
 }
 
-fn hashes_of_foobar() {
-    hash_row(b"fo", 0x08985907b541d342);
-    hash_row(b"foo", 0xdcb27518fed9d577);
-    hash_row(b"foob", 0xdd120e790c2512af);
-    hash_row(b"fooba", 0xcac165afa2fef40a);
-    hash_row(b"foobar", 0x85944171f73967e8);
+fn hashes_of_foobar(rt: &impl Print) -> io::Result<()> {
+    hash_row(rt, b"fo", 0x08985907b541d342)?;
+    hash_row(rt, b"foo", 0xdcb27518fed9d577)?;
+    hash_row(rt, b"foob", 0xdd120e790c2512af)?;
+    hash_row(rt, b"fooba", 0xcac165afa2fef40a)?;
+    hash_row(rt, b"foobar", 0x85944171f73967e8)
 }
 
-fn hashes_of_chongo() {
-    hash_row(b"ch", 0x08a25607b54a22ae);
-    hash_row(b"cho", 0xf5faf0190cf90df3);
-    hash_row(b"chon", 0xf27397910b3221c7);
-    hash_row(b"chong", 0x2c8c2b76062f22e0);
-    hash_row(b"chongo", 0xe150688c8217b8fd);
+fn hashes_of_chongo(rt: &impl Print) -> io::Result<()> {
+    hash_row(rt, b"ch", 0x08a25607b54a22ae)?;
+    hash_row(rt, b"cho", 0xf5faf0190cf90df3)?;
+    hash_row(rt, b"chon", 0xf27397910b3221c7)?;
+    hash_row(rt, b"chong", 0x2c8c2b76062f22e0)?;
+    hash_row(rt, b"chongo", 0xe150688c8217b8fd)
 }
 
 fn token(star: bool) -> u8 {
@@ -271,107 +284,130 @@ fn first_numbers(numbers: &[usize], count: usize) -> &[usize] {
 
 // All runs of ten tokens out of `a` and `*`: accepted. The list.
 fn accepted_rows(
+    rt: &impl Print,
     run: &mut Run,
     words: &mut Words,
     store: &mut Store,
     nodes: &mut Nodes,
     targets: &mut Targets,
-) -> CAnswer {
+) -> io::Result<CAnswer> {
     let all = insert_runs(1024, run, words, store);
     row(
+        rt,
         b"the 1,024 runs of ten tokens, inserted:",
         all,
         0,
         1024,
         19456,
-    );
+    )?;
     let table = build(first_numbers(words, RUN_NUMBERS), store, nodes, targets);
-    row(b"their table, nodes and worst case:", table, 0, 2047, 1024);
-    all
+    row(
+        rt,
+        b"their table, nodes and worst case:",
+        table,
+        0,
+        2047,
+        1024,
+    )?;
+    Ok(all)
 }
 
 // With the all-star run followed by `.a` and by `.*`: refused.
 fn refused_rows(
+    rt: &impl Print,
     all: CAnswer,
     words: &mut Words,
     store: &mut Store,
     nodes: &mut Nodes,
     targets: &mut Targets,
-) {
+) -> io::Result<()> {
     let one = insert(all, words, store, b"*.*.*.*.*.*.*.*.*.*.a", 1024);
     let two = insert(one, words, store, b"*.*.*.*.*.*.*.*.*.*.*", 1025);
     row(
+        rt,
         b"the all-star run with .a and with .*, inserted:",
         two,
         0,
         1026,
         19498,
-    );
+    )?;
     let table = build(words, store, nodes, targets);
     row(
+        rt,
         b"the table with these, worst case and limit:",
         table,
         16,
         1025,
         1024,
-    );
+    )
 }
 
 // The areas for the rows of runs.
-fn runs() {
+fn runs(rt: &impl Print) -> io::Result<()> {
     let mut run = [b'.'; RUN_BYTES];
     let mut words = [0usize; ENTRY_NUMBERS];
     let mut store = [0u8; STORE_BYTES];
     let mut nodes = [0u32; NODE_WORDS];
     let mut targets = [0u32; ENTRIES];
-    let all = accepted_rows(&mut run, &mut words, &mut store, &mut nodes, &mut targets);
-    refused_rows(all, &mut words, &mut store, &mut nodes, &mut targets);
+    let all = accepted_rows(
+        rt,
+        &mut run,
+        &mut words,
+        &mut store,
+        &mut nodes,
+        &mut targets,
+    )?;
+    refused_rows(rt, all, &mut words, &mut store, &mut nodes, &mut targets)
 }
 
 // From Marsaglia's own start.
-fn draws() {
-    let first = draw_row(88172645463325252, 8748534153485358512);
-    let second = draw_row(first, 3040900993826735515);
-    draw_row(second, 3453997556048239312);
+fn draws(rt: &impl Print) -> io::Result<()> {
+    let first = draw_row(rt, 88172645463325252, 8748534153485358512)?;
+    let second = draw_row(rt, first, 3040900993826735515)?;
+    draw_row(rt, second, 3453997556048239312)?;
+    Ok(())
 }
 
 // One behind another, from the start 1.
-fn patterns() {
-    let first = pattern_row(1, 7, 9659130143999365733);
-    let second = pattern_row(first, 3, 14279964170112293133);
-    let third = pattern_row(second, 7, 5632491372296299238);
-    let fourth = pattern_row(third, 3, 14960181732260564859);
-    let fifth = pattern_row(fourth, 11, 2696366417989762466);
-    pattern_row(fifth, 3, 17489430009591986844);
+fn patterns(rt: &impl Print) -> io::Result<()> {
+    let first = pattern_row(rt, 1, 7, 9659130143999365733)?;
+    let second = pattern_row(rt, first, 3, 14279964170112293133)?;
+    let third = pattern_row(rt, second, 7, 5632491372296299238)?;
+    let fourth = pattern_row(rt, third, 3, 14960181732260564859)?;
+    let fifth = pattern_row(rt, fourth, 11, 2696366417989762466)?;
+    pattern_row(rt, fifth, 3, 17489430009591986844)?;
+    Ok(())
 }
 
-fn subjects() {
-    let first = subject_row(1, 7, 9659130143999365733);
-    let second = subject_row(first, 3, 14279964170112293133);
-    let third = subject_row(second, 7, 5632491372296299238);
-    let fourth = subject_row(third, 3, 14960181732260564859);
-    let fifth = subject_row(fourth, 11, 2696366417989762466);
-    subject_row(fifth, 3, 17489430009591986844);
+fn subjects(rt: &impl Print) -> io::Result<()> {
+    let first = subject_row(rt, 1, 7, 9659130143999365733)?;
+    let second = subject_row(rt, first, 3, 14279964170112293133)?;
+    let third = subject_row(rt, second, 7, 5632491372296299238)?;
+    let fourth = subject_row(rt, third, 3, 14960181732260564859)?;
+    let fifth = subject_row(rt, fourth, 11, 2696366417989762466)?;
+    subject_row(rt, fifth, 3, 17489430009591986844)?;
+    Ok(())
 }
 
 // A start of 0, and an output that is one byte short: the output and the state are left.
-fn refused_makings() {
+fn refused_makings(rt: &impl Print) -> io::Result<()> {
     let mut short = [b'-'; 6];
     let zero = make_pattern(0, &mut short);
-    made_row(b"from the start 0: ", &short, zero, 0, 0);
+    made_row(rt, b"from the start 0: ", &short, zero, 0, 0)?;
     let one_less = make_subject(1, &mut short);
-    made_row(b"into 6 bytes: ", &short, one_less, 7, 1);
+    made_row(rt, b"into 6 bytes: ", &short, one_less, 7, 1)?;
+    Ok(())
 }
 
-fn main() {
-    depths();
-    characters();
-    runs();
-    short_hashes();
-    hashes_of_foobar();
-    hashes_of_chongo();
-    draws();
-    patterns();
-    subjects();
-    refused_makings();
+fn main(rt: HostRuntime) -> io::Result<()> {
+    depths(&rt)?;
+    characters(&rt)?;
+    runs(&rt)?;
+    short_hashes(&rt)?;
+    hashes_of_foobar(&rt)?;
+    hashes_of_chongo(&rt)?;
+    draws(&rt)?;
+    patterns(&rt)?;
+    subjects(&rt)?;
+    refused_makings(&rt)
 }

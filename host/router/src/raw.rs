@@ -1,4 +1,4 @@
-//! The calls of the C library (`crates/router_c`), each behind a safe function, with answers as it gives them: numbers.
+//! The calls of the C library (`crates/router_c_c`), each behind a safe function, with answers as it gives them: numbers.
 //!
 //! Every call takes any numbers, words and bytes: it ends with its result or a refusal and never reads or writes outside the slices that it is lent.
 //! So the states below may be made by hand, with any numbers in them; a state that does not fit its area is refused or gives a defined answer.

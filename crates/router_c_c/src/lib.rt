@@ -1,0 +1,9 @@
+// The exports for C: each call of `router_c` under its own name, with the same clauses.
+// Texts, texts made for a bench, lists, tables, and what a cabinet keeps: the snapshot and the cache.
+#![tactic(auto)]
+
+mod cabinet;
+mod lists;
+mod load;
+mod tables;
+mod texts;

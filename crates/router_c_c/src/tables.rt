@@ -1,0 +1,42 @@
+// Matches on a lent table, its words lent as words or as bytes.
+ghost use Rattle.sublist_walk_rules.specs.Matching.{match_table};
+ghost use Rattle.router_words.specs.Words.{Writes};
+ghost use Rattle.router_bytes_rules.specs.Bytes.{match_bytes};
+
+use router_c::CAnswer;
+
+// The targets that a subject matches in a table, written over the first places of the output.
+// The answer has their number and the peak, or why not.
+#[unsafe(no_mangle)]
+pub extern "C" fn router_match(
+    nodes: usize,
+    targets: usize,
+    node_words: &[u32],
+    target_words: &[u32],
+    subject: &[u8],
+    out: &mut [u32],
+) -> CAnswer
+    ensures { Writes result out.new
+        (match_table nodes targets node_words.now target_words.now
+        subject.now out.old) }
+{
+    router_c::router_match(nodes, targets, node_words, target_words, subject, out)
+}
+
+// The match on areas of bytes, lowest byte of a word first; whole words count.
+// 99 if the three areas are together more than 65,536 bytes.
+#[unsafe(no_mangle)]
+pub extern "C" fn router_match_bytes(
+    nodes: usize,
+    targets: usize,
+    node_bytes: &[u8],
+    target_bytes: &[u8],
+    subject: &[u8],
+    out_bytes: &mut [u8],
+) -> CAnswer
+    ensures { Writes result out_bytes.new
+        (match_bytes nodes targets node_bytes.now target_bytes.now
+        subject.now out_bytes.old) }
+{
+    router_c::router_match_bytes(nodes, targets, node_bytes, target_bytes, subject, out_bytes)
+}
