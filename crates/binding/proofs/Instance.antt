@@ -27,9 +27,8 @@ use Rattle.sublist_rules.specs.Leaving.{build_leaves}
 use Rattle.sublist_snapshot.specs.Snapshot.{make}
 use Rattle.resolve_cache_rules.specs.Cache.{with_capacity}
 use Rattle.binding.specs.Built.{BuiltFrom}
-use Rattle.binding.specs.Demand.{in_play, HashedApart, Premises, Opened, EachRight, start}
+use Rattle.binding.specs.Demand.{in_play, HashedApart, Premises, Opened}
 use Rattle.binding.specs.Timetable.{texts, list_from, table_of, words_for, cabinet, five_entries, other_entries, every_call}
-use Rattle.binding.proofs.Interleaving.{interleaving}
 
 abbrev every : {A : Type 0} → (A → Bool) → List A → Bool
 every p [] = true
@@ -106,6 +105,3 @@ met_premises = record {
 pub opened : Opened (table_of 5 five_entries 1) (words_for (table_of 5 five_entries 1)) (cabinet 1 (table_of 5 five_entries 1))
 unfolding sequence first_bad fnv fnv_from grammar seek literal_child star_child added placed child_or_new onward grown planted counted joined line_in lines_in told settled laid_at laid filled_by filled build_leaves worst_of worst make with_capacity
 opened = record { snapshot_made = refl; caches_made = λ i. (1, refl) }
-
-pub met-calls : EachRight (start five_entries (words_for (table_of 5 five_entries 1))) (cabinet 1 (table_of 5 five_entries 1)) every_call
-met-calls = (interleaving (table_of 5 five_entries 1) five_entries every_call met_premises (words_for (table_of 5 five_entries 1)) (cabinet 1 (table_of 5 five_entries 1))).calls_right opened

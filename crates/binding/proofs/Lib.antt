@@ -7,3 +7,4 @@ pub mod Interleaving
 pub mod Refusing
 pub mod Rows
 pub mod Instance
+pub mod MetCalls

@@ -14,7 +14,7 @@ use lib.Dec.{eqb, ltb}
 use lib.ListN.{length}
 use borrow.Author.Tests.{eqb-true}
 use Rattle.subject_rules.specs.Choice.{or}
-use Rattle.subject_rules.specs.Original.{if◌then◌else◌, equal}
+use Rattle.subject_rules.specs.Original.{when◌then◌else◌, equal}
 use Rattle.sublist_tree.specs.Table.{TableEntry}
 use Rattle.sublist_original.specs.Original.{Ok, Std}
 use Rattle.binding_original.specs.Original.{SublistSnapshot, CacheEntry, HashMap, Iter, ResolveCache, Each, get, refresh, remove, guarded, without, evict_if_full, hit, miss, looked_up, resolve_with, wrapping_add}
@@ -30,7 +30,7 @@ equal-sound [] (y ∷ ys) e = let z : ◌≡◌ {A = ℕ} 0 1 = cc in absurd (om
 equal-sound (x ∷ xs) [] e = let z : ◌≡◌ {A = ℕ} 0 1 = cc in absurd (omega arith)
 equal-sound (x ∷ xs) (y ∷ ys) e = go (eqb x y) refl e (equal-sound xs ys)
   where
-    go : (b : Bool) → eqb x y ≡ b → (if b then equal xs ys else false) ≡ true → (equal xs ys ≡ true → xs ≡ ys) → x ∷ xs ≡ y ∷ ys
+    go : (b : Bool) → eqb x y ≡ b → (when b then equal xs ys else false) ≡ true → (equal xs ys ≡ true → xs ≡ ys) → x ∷ xs ≡ y ∷ ys
     go true p e ih = rw (eqb-true x y p, ih e)
     go false p e ih = let z : ◌≡◌ {A = ℕ} 0 1 = cc in absurd (omega arith)
 
@@ -43,7 +43,7 @@ module _ (due : List ℕ → List ℕ) where
   get-kept [] key e k q = let z : ◌≡◌ {A = ℕ} 0 1 = cc in absurd (omega arith)
   get-kept ((k, d) ∷ rest) key e a q = go (equal k key) refl q (get-kept rest key e a.1)
     where
-      go : (b : Bool) → equal k key ≡ b → (if b then some d else get rest key) ≡ some e → (get rest key ≡ some e → e.targets ≡ due key) → e.targets ≡ due key
+      go : (b : Bool) → equal k key ≡ b → (when b then some d else get rest key) ≡ some e → (get rest key ≡ some e → e.targets ≡ due key) → e.targets ≡ due key
       go true p q ih = let same : d ≡ e = cc in ap (λ (x : CacheEntry ℕ). x.targets) (sym same) ∙ a.0 ∙ ap due (equal-sound k key p)
       go false p q ih = ih q
 
@@ -51,7 +51,7 @@ module _ (due : List ℕ → List ℕ) where
   refresh-kept [] key t a = tt
   refresh-kept ((k, d) ∷ rest) key t a = go (equal k key) (refresh-kept rest key t a.1)
     where
-      go : (b : Bool) → Each Kept (refresh rest key t) → Each Kept (if b then (k, record { targets = d.targets; last_used = t }) ∷ refresh rest key t else (k, d) ∷ refresh rest key t)
+      go : (b : Bool) → Each Kept (refresh rest key t) → Each Kept (when b then (k, record { targets = d.targets; last_used = t }) ∷ refresh rest key t else (k, d) ∷ refresh rest key t)
       go true ih = (a.0, ih)
       go false ih = (a.0, ih)
 
@@ -59,7 +59,7 @@ module _ (due : List ℕ → List ℕ) where
   remove-kept [] key a = tt
   remove-kept ((k, d) ∷ rest) key a = go (equal k key) (remove-kept rest key a.1)
     where
-      go : (b : Bool) → Each Kept (remove rest key) → Each Kept (if b then remove rest key else (k, d) ∷ remove rest key)
+      go : (b : Bool) → Each Kept (remove rest key) → Each Kept (when b then remove rest key else (k, d) ∷ remove rest key)
       go true ih = ih
       go false ih = (a.0, ih)
 
@@ -70,7 +70,7 @@ module _ (due : List ℕ → List ℕ) where
   evict_kept : (iter : Iter ℕ) (cache : ResolveCache ℕ) → Each Kept cache.entries → Each Kept (evict_if_full iter cache)
   evict_kept iter cache a = go (ltb (length cache.entries) cache.capacity) (iter.min_by_last_used cache.entries)
     where
-      go : (b : Bool) (o : Option (List ℕ × CacheEntry ℕ)) → Each Kept (if b then cache.entries else without o cache.entries)
+      go : (b : Bool) (o : Option (List ℕ × CacheEntry ℕ)) → Each Kept (when b then cache.entries else without o cache.entries)
       go true o = a
       go false none = a
       go false (some victim) = remove-kept cache.entries victim.0 a
@@ -108,7 +108,7 @@ Trusty due g cache = cache.generation ≡ g → Each (Kept due) cache.entries
 pub guarded_on : (g : ℕ) (cache : ResolveCache ℕ) → (guarded g cache).generation ≡ g
 guarded_on g cache = go (eqb g cache.generation) refl
   where
-    go : (b : Bool) → eqb g cache.generation ≡ b → (if b then cache else record { entries = []; generation = g; capacity = cache.capacity; tick = 0; walks = cache.walks }).generation ≡ g
+    go : (b : Bool) → eqb g cache.generation ≡ b → (when b then cache else record { entries = []; generation = g; capacity = cache.capacity; tick = 0; walks = cache.walks }).generation ≡ g
     go true q = sym (eqb-true g cache.generation q)
     go false q = refl
 
@@ -124,7 +124,7 @@ module _ (due : List ℕ → List ℕ) (g : ℕ) (cache : ResolveCache ℕ) (t :
   guarded-kept = go (eqb g cache.generation) refl
     where
       go : (b : Bool) → eqb g cache.generation ≡ b
-          → Each (Kept due) (if b then cache else record { entries = []; generation = g; capacity = cache.capacity; tick = 0; walks = cache.walks }).entries
+          → Each (Kept due) (when b then cache else record { entries = []; generation = g; capacity = cache.capacity; tick = 0; walks = cache.walks }).entries
       go true q = t (sym (eqb-true g cache.generation q))
       go false q = tt
 

@@ -15,6 +15,7 @@ pub mod Texts
 pub mod Together
 pub mod Steps
 pub mod Resolves
+pub mod FirstTables
 pub mod SameCalls
 -- The theorem, with nothing left open.
 pub mod Whole

@@ -7,7 +7,7 @@ use mathlib.Core.Bool.{Bool, true, false}
 use mathlib.Core.List.{List, [], ◌∷◌, ◌++◌, Memᴰ}
 use mathlib.Core.Option.{none, some}
 use lib.ListN.{length}
-use Rattle.subject_rules.specs.Original.{if◌then◌else◌, equal}
+use Rattle.subject_rules.specs.Original.{when◌then◌else◌, equal}
 use Rattle.sublist_tree.proofs.Bytes.{eqb_whole}
 use Rattle.binding_original.specs.Original.{CacheEntry, HashMap, Each, get, refresh, remove}
 use Rattle.binding_original.proofs.Keeping.{equal-sound}
@@ -56,7 +56,7 @@ pub get_none : (es : HashMap ℕ) (key : List ℕ) → get es key ≡ none → A
 get_none [] key e = tt
 get_none ((k, d) ∷ es) key e = go (equal k key) refl e (get_none es key)
   where
-    go : (b : Bool) → equal k key ≡ b → (if b then some d else get es key) ≡ none → (get es key ≡ none → Absent es key) → Absent ((k, d) ∷ es) key
+    go : (b : Bool) → equal k key ≡ b → (when b then some d else get es key) ≡ none → (get es key ≡ none → Absent es key) → Absent ((k, d) ∷ es) key
     go true p e ih = let z : ◌≡◌ {A = ℕ} 0 1 = cc in absurd (omega arith)
     go false p e ih = (unequal k key p, ih e)
 
@@ -64,7 +64,7 @@ pub get_some : (es : HashMap ℕ) (key : List ℕ) (e : CacheEntry ℕ) → get 
 get_some [] key e q = let z : ◌≡◌ {A = ℕ} 0 1 = cc in absurd (omega arith)
 get_some ((k, d) ∷ es) key e q = go (equal k key) refl q (get_some es key e)
   where
-    go : (b : Bool) → equal k key ≡ b → (if b then some d else get es key) ≡ some e → (get es key ≡ some e → Memᴰ (key, e) es) → Memᴰ (key, e) ((k, d) ∷ es)
+    go : (b : Bool) → equal k key ≡ b → (when b then some d else get es key) ≡ some e → (get es key ≡ some e → Memᴰ (key, e) es) → Memᴰ (key, e) ((k, d) ∷ es)
     go true p q ih = let s : d ≡ e = cc in let t = equal-sound k key p in let r : ◌≡◌ {A = Pair} (key, e) (k, d) = cc in Memᴰ.head r
     go false p q ih = Memᴰ.tail (ih q)
 
@@ -72,12 +72,12 @@ get_some ((k, d) ∷ es) key e q = go (equal k key) refl q (get_some es key e)
 
 -- an entry, refreshed if it has the key
 abbrev pub upd : List ℕ → ℕ → Pair → Pair
-upd key t (k, e) = if equal k key then (k, record { targets = e.targets; last_used = t }) else (k, e)
+upd key t (k, e) = when equal k key then (k, record { targets = e.targets; last_used = t }) else (k, e)
 
 upd_key : (key : List ℕ) (t : ℕ) (x : Pair) → (upd key t x).0 ≡ x.0
 upd_key key t (k, e) = go (equal k key)
   where
-    go : (b : Bool) → ◌≡◌ {A = List ℕ} (let y : Pair = if b then (k, record { targets = e.targets; last_used = t }) else (k, e) in y).0 k
+    go : (b : Bool) → ◌≡◌ {A = List ℕ} (let y : Pair = when b then (k, record { targets = e.targets; last_used = t }) else (k, e) in y).0 k
     go true = refl
     go false = refl
 
@@ -85,8 +85,8 @@ refresh-step : (k : List ℕ) (e : CacheEntry ℕ) (es : HashMap ℕ) (key : Lis
 refresh-step k e es key t = go (equal k key)
   where
     go : (b : Bool)
-        → ◌≡◌ {A = HashMap ℕ} (if b then (k, record { targets = e.targets; last_used = t }) ∷ refresh es key t else (k, e) ∷ refresh es key t)
-        ((let y : Pair = if b then (k, record { targets = e.targets; last_used = t }) else (k, e) in y) ∷ refresh es key t)
+        → ◌≡◌ {A = HashMap ℕ} (when b then (k, record { targets = e.targets; last_used = t }) ∷ refresh es key t else (k, e) ∷ refresh es key t)
+        ((let y : Pair = when b then (k, record { targets = e.targets; last_used = t }) else (k, e) in y) ∷ refresh es key t)
     go true = refl
     go false = refl
 
@@ -127,7 +127,7 @@ pub remove_from : (es : HashMap ℕ) (key : List ℕ) (y : Pair) → Memᴰ y (r
 remove_from [] key y m = elim m [ ]
 remove_from ((k, e) ∷ es) key y m = go (equal k key) refl m (remove_from es key y)
   where
-    go : (b : Bool) → equal k key ≡ b → Memᴰ y (if b then remove es key else (k, e) ∷ remove es key)
+    go : (b : Bool) → equal k key ≡ b → Memᴰ y (when b then remove es key else (k, e) ∷ remove es key)
         → (Memᴰ y (remove es key) → Memᴰ y es × (y.0 ≡ key → ⊥)) → Memᴰ y ((k, e) ∷ es) × (y.0 ≡ key → ⊥)
     go true p m ih = let r = ih m in (Memᴰ.tail r.0, r.1)
     go false p (Memᴰ.head q) ih = (Memᴰ.head q, λ s. unequal k key p (ap (λ (x : Pair). x.0) (sym q) ∙ s))
@@ -138,7 +138,7 @@ remove_to [] key x x4 n = elim x4 [ ]
 remove_to ((k, e) ∷ es) key x (Memᴰ.head q) n = rw (equal_other k key (λ s. n (ap (λ (y : Pair). y.0) q ∙ s))) (Memᴰ.head q)
 remove_to ((k, e) ∷ es) key x (Memᴰ.tail m) n = go (equal k key) (remove_to es key x m n)
   where
-    go : (b : Bool) → Memᴰ x (remove es key) → Memᴰ x (if b then remove es key else (k, e) ∷ remove es key)
+    go : (b : Bool) → Memᴰ x (remove es key) → Memᴰ x (when b then remove es key else (k, e) ∷ remove es key)
     go true r = r
     go false r = Memᴰ.tail r
 
@@ -146,7 +146,7 @@ pub remove_once : (es : HashMap ℕ) (key : List ℕ) → Once es → Once (remo
 remove_once [] key o = tt
 remove_once ((k, e) ∷ es) key o = go (equal k key) (remove_once es key o.1)
   where
-    go : (b : Bool) → Once (remove es key) → Once (if b then remove es key else (k, e) ∷ remove es key)
+    go : (b : Bool) → Once (remove es key) → Once (when b then remove es key else (k, e) ∷ remove es key)
     go true r = r
     go false r = (absent_of (remove es key) k (λ y m q. each_at (λ x. x.0 ≡ k → ⊥) es y o.0 (remove_from es key y m).0 q), r)
 

@@ -15,7 +15,7 @@ use lib.Dec.{eqb, ltb}
 use lib.ListN.{length}
 use borrow.Author.Tests.{eqb-true, eqb-false, ltb-true, ltb-false}
 use Rattle.subject_rules.specs.Choice.{pick}
-use Rattle.subject_rules.specs.Original.{if◌then◌else◌, equal}
+use Rattle.subject_rules.specs.Original.{when◌then◌else◌, equal}
 use Rattle.sublist_snapshot.specs.Snapshot.{wrap}
 use Rattle.resolve_cache_rules.specs.declared.ResolveCache.{ResolveCache}
 use Rattle.resolve_cache_rules.specs.Area.{Area, stamp_at, key_at, targets_at, keep, touch}
@@ -276,7 +276,7 @@ module _ (m : ℕ) (e : ResolveCache) (a : Area) (o : original.ResolveCache ℕ)
     miss_near iter = go (ltb e.used e.capacity) refl (ltb (length o.entries) o.capacity) full_same
       where
         go : (b : Bool) → ltb e.used e.capacity ≡ b → (d : Bool) → d ≡ ltb e.used e.capacity
-            → Left (if d then o.entries else without (iter.min_by_last_used o.entries) o.entries) b
+            → Left (when d then o.entries else without (iter.min_by_last_used o.entries) o.entries) b
         go true q true z = room-left (ltb-true e.used e.capacity q)
         go true q false z = let c : ◌≡◌ {A = ℕ} 0 1 = cc in absurd (omega arith)
         go false q true z = let c : ◌≡◌ {A = ℕ} 0 1 = cc in absurd (omega arith)

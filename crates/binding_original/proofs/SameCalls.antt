@@ -16,26 +16,24 @@ use Rattle.subject_rules.specs.Fnv.{fnv}
 use Rattle.subject_rules.specs.Answers.{answer}
 use Rattle.sublist_tree.specs.Lists.{All}
 use Rattle.sublist_tree.specs.Table.{TableEntry, root_of}
-use Rattle.sublist_original.specs.Original.{Outcome, Ok, Std, Sublist, build}
-use Rattle.sublist_original.specs.Entries.{builder_of}
+use Rattle.sublist_original.specs.Original.{Outcome, Std, Sublist}
 use Rattle.sublist_snapshot.specs.declared.Snapshot.{Snapshot}
 use Rattle.sublist_snapshot.specs.Snapshot.{Table, length_of, copied, first, snapshot_numbers, Made, make}
-use Rattle.sublist_snapshot.proofs.Copies.{copied-holds, make_full, make-fits}
+use Rattle.sublist_snapshot.proofs.Copies.{make_full, make-fits}
 use Rattle.binding.specs.Calls as ours
 use Rattle.binding.specs.Calls.{Call, store, clearing, asking, resolving, asking_home, resolving_home}
 use Rattle.binding.specs.Demand.{Opened, Lent}
 use Rattle.binding.specs.Built.{BuiltFrom}
-use Rattle.binding.proofs.Builds.{built_accepts, built_bound}
 use Rattle.binding.proofs.Tables.{table-holds}
 use Rattle.binding_original.specs.Original as original
 use Rattle.binding_original.specs.Original.{Iter, ResolveCache}
 use Rattle.binding_original.specs.Calls.{SnapshotInArea, Yard, cabinet_of, NamedCall, reply_on, after_on, World, Asked, Told, call, added, Answered, Compared, asked, Tabled, SameCall, Fresh}
 use Rattle.binding_original.specs.Caches.{Seen, unseen, meeting, met_by, seen_after, compares, EachSame}
-use Rattle.binding_original.proofs.Stamping.{Walks, stamped-walks, stamped-same}
 use Rattle.binding_original.proofs.SameResolve.{Sound, fresh-sound}
 use Rattle.binding_original.proofs.Together.{Both, stands_at, Together, meets, met-named}
 use Rattle.binding_original.proofs.Steps.{store_step, clear_step, asking-step, asking-home-step}
 use Rattle.binding_original.proofs.Resolves.{resolving-step, resolving-home-step}
+use Rattle.binding_original.proofs.FirstTables.{FirstBuilt, at_first}
 
 module _ (std : Std) (iter : Iter ℕ) (k : Seen) (m : ℕ) (y : Yard) (w : World) (held : Together std k m y w) where
   -- what is known when a call is made on snapshot j
@@ -89,21 +87,7 @@ module _ (std : Std) (iter : Iter ℕ) where
       ap (λ (l : List ℕ). record { nodes = get_or l 0 0; targets = get_or l 1 0; generation = record { 0 = get_or l 2 0 }; next = record { 0 = get_or l 3 0 } }) e
 
   -- a snapshot of ours is made of a table, one of theirs of a table of the same entries, built as 0
-  module _ (t : Table) (es : List TableEntry) (built : BuiltFrom t es) (area : List ℕ) (table : Sublist ℕ) (few : length es ≤ 2048)
-      (made : build std (builder_of es) 0 ≡ Ok table) where
-    whole : original.stamp table 0 ≡ table
-    whole = stamped-same std (builder_of es) 0 table made
-
-    at_first : Both std es (record { snapshot = first t; words = copied t area }) (original.new table)
-    at_first = record {
-      accepted = built_accepts t es built;
-      worst_case = built_bound t es built;
-      holds = copied-holds t (root_of fnv es) (table-holds t es built) area;
-      walks = subst (Walks std es) whole (stamped-walks std es table (built_accepts t es built) (few, 0, made) 0);
-      generation = ap (λ (x : Sublist ℕ). x.generation) (sym whole);
-      next = refl;
-    }
-
+  module _ (t : Table) (es : List TableEntry) (built : BuiltFrom t es) (area : List ℕ) (table : Sublist ℕ) (few : length es ≤ 2048) (made : FirstBuilt std es table) where
     made_both : (s : SnapshotInArea) → make t area ≡ record { says = answer 0 (snapshot_numbers s.snapshot); area = s.words } → Both std es s (original.new table)
     made_both s ours = go (ltb (length area) (length_of t)) refl
       where
@@ -117,7 +101,7 @@ module _ (std : Std) (iter : Iter ℕ) where
             let q : answer 0 (snapshot_numbers (first t)) ≡ answer 0 (snapshot_numbers s.snapshot) = ap (λ (x : Made). x.says) m in
             let n : snapshot_numbers (first t) ≡ snapshot_numbers s.snapshot = cc in
             subst (λ v. Both std es (record { snapshot = s.snapshot; words = v }) (original.new table)) (ap (λ (x : Made). x.area) m)
-            (subst (λ u. Both std es (record { snapshot = u; words = copied t area }) (original.new table)) (same_numbers (first t) s.snapshot n) at_first)
+            (subst (λ u. Both std es (record { snapshot = u; words = copied t area }) (original.new table)) (same_numbers (first t) s.snapshot n) (at_first std t es built area table few made))
 
   module _ (ts : ℕ → Table) (es : ℕ → List TableEntry) (built : (j : ℕ) → BuiltFrom (ts j) (es j)) (areas : ℕ → List ℕ) (y : Yard)
       (opened : (j : ℕ) → Opened (ts j) (areas j) (cabinet_of y j)) (w : World) (fresh : Fresh std es w)

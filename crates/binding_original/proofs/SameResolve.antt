@@ -16,7 +16,7 @@ use lib.ListN.{length}
 use borrow.Author.Tests.{ltb-false, eqb-true, eqb-false}
 use Rattle.subject_rules.specs.Choice.{pick, and, or}
 use Rattle.subject_rules.specs.Answers.{answer}
-use Rattle.subject_rules.specs.Original.{if◌then◌else◌}
+use Rattle.subject_rules.specs.Original.{when◌then◌else◌}
 use Rattle.sublist_walk_rules.specs.Walk.{among}
 use Rattle.sublist_snapshot.specs.declared.Generation.{Generation}
 use Rattle.resolve_cache_rules.specs.declared.ResolveCache.{ResolveCache}
@@ -120,7 +120,7 @@ module _ (spoiled mixed : Bool) (stood : List ℕ) (due : List ℕ → List ℕ)
       n = s.near clean
 
       go : (b : Bool) → eqb c.generation.0 g.0 ≡ b → (d : Bool) → eqb g.0 o.generation ≡ d
-          → Near m (pick b c (emptied g c)) a (if d then o else record { entries = []; generation = g.0; capacity = o.capacity; tick = 0; walks = o.walks })
+          → Near m (pick b c (emptied g c)) a (when d then o else record { entries = []; generation = g.0; capacity = o.capacity; tick = 0; walks = o.walks })
       go true p true q = n
       go false p false q = emptied_near m g c a o n
       go true p false q = absurd (eqb-false g.0 o.generation q (sym (eqb-true c.generation.0 g.0 p) ∙ sym n.same.generation))

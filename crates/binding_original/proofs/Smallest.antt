@@ -8,7 +8,7 @@ use mathlib.Core.List.{List, [], ◌∷◌, Memᴰ}
 use mathlib.Core.Option.{Option, none, some}
 use lib.Dec.{ltb}
 use borrow.Author.Tests.{ltb-true, ltb-false}
-use Rattle.subject_rules.specs.Original.{if◌then◌else◌}
+use Rattle.subject_rules.specs.Original.{when◌then◌else◌}
 use Rattle.binding_original.specs.Original.{CacheEntry, HashMap, Each, Iter}
 
 abbrev Pair : Type 0
@@ -18,7 +18,7 @@ abbrev stamp_of : Pair → ℕ
 stamp_of x = x.1.last_used
 
 abbrev older : Pair → Pair → Pair
-older best x = if ltb (stamp_of x) (stamp_of best) then x else best
+older best x = when ltb (stamp_of x) (stamp_of best) then x else best
 
 abbrev smallest_of : Pair → HashMap ℕ → Pair
 smallest_of best [] = best
@@ -33,7 +33,7 @@ smallest_in best [] = inl refl
 smallest_in best (x ∷ es) = go (ltb (stamp_of x) (stamp_of best)) (λ y. smallest_in y es)
   where
     go : (b : Bool) → ((y : Pair) → (smallest_of y es ≡ y) ⊎ Memᴰ (smallest_of y es) es)
-        → (smallest_of (if b then x else best) es ≡ best) ⊎ Memᴰ (smallest_of (if b then x else best) es) (x ∷ es)
+        → (smallest_of (when b then x else best) es ≡ best) ⊎ Memᴰ (smallest_of (when b then x else best) es) (x ∷ es)
     go true ih = at (ih x)
       where
         at : (smallest_of x es ≡ x) ⊎ Memᴰ (smallest_of x es) es → (smallest_of x es ≡ best) ⊎ Memᴰ (smallest_of x es) (x ∷ es)
@@ -50,7 +50,7 @@ smallest_least best [] = (omega arith, tt)
 smallest_least best (x ∷ es) = go (ltb (stamp_of x) (stamp_of best)) refl (λ y. smallest_least y es)
   where
     go : (b : Bool) → ltb (stamp_of x) (stamp_of best) ≡ b → ((y : Pair) → (stamp_of (smallest_of y es) ≤ stamp_of y) × Each (λ z. stamp_of (smallest_of y es) ≤ stamp_of z) es)
-        → (stamp_of (smallest_of (if b then x else best) es) ≤ stamp_of best) × Each (λ z. stamp_of (smallest_of (if b then x else best) es) ≤ stamp_of z) (x ∷ es)
+        → (stamp_of (smallest_of (when b then x else best) es) ≤ stamp_of best) × Each (λ z. stamp_of (smallest_of (when b then x else best) es) ≤ stamp_of z) (x ∷ es)
     go true q ih = (omega (arith, (ih x).0, ltb-true (stamp_of x) (stamp_of best) q), ((ih x).0, (ih x).1))
     go false q ih = ((ih best).0, (omega (arith, (ih best).0, ltb-false (stamp_of x) (stamp_of best) q), (ih best).1))
 

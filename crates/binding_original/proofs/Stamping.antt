@@ -7,7 +7,7 @@ use mathlib.Core.List.{List, [], ◌∷◌, map}
 use lib.Dec.{eqb, ltb}
 use Rattle.subject_rules.specs.Text.{tokens}
 use Rattle.subject_rules.specs.Fnv.{fnv}
-use Rattle.subject_rules.specs.Original.{if◌then◌else◌}
+use Rattle.subject_rules.specs.Original.{when◌then◌else◌}
 use Rattle.sublist_tree.specs.Lists.{All}
 use Rattle.sublist_tree.specs.Tree.{walk}
 use Rattle.sublist_tree.specs.Table.{TableEntry, root_of, Accepted}
@@ -20,8 +20,8 @@ use Rattle.binding_original.specs.Calls.{TableOf}
 
 module _ (std : Std) (builder : SublistBuilder ℕ) (g h : ℕ) (table : Sublist ℕ) where
   by_worst : (flat : List ℕ × List Node) (worst_case : ℕ) (over : Bool)
-      → ◌≡◌ {A = Outcome (Sublist ℕ)} (if over then Err (ForkLimitExceeded worst_case 1024) else Ok (record { nodes = flat.1; targets = flat.0; generation = g })) (Ok table)
-      → ◌≡◌ {A = Outcome (Sublist ℕ)} (if over then Err (ForkLimitExceeded worst_case 1024) else Ok (record { nodes = flat.1; targets = flat.0; generation = h })) (Ok (stamp table h))
+      → ◌≡◌ {A = Outcome (Sublist ℕ)} (when over then Err (ForkLimitExceeded worst_case 1024) else Ok (record { nodes = flat.1; targets = flat.0; generation = g })) (Ok table)
+      → ◌≡◌ {A = Outcome (Sublist ℕ)} (when over then Err (ForkLimitExceeded worst_case 1024) else Ok (record { nodes = flat.1; targets = flat.0; generation = h })) (Ok (stamp table h))
   by_worst flat worst_case true e = let z : ◌≡◌ {A = ℕ} 0 1 = cc in absurd (omega arith)
   by_worst flat worst_case false e =
       let same : record { nodes = flat.1; targets = flat.0; generation = g } ≡ table = cc in
@@ -33,15 +33,15 @@ module _ (std : Std) (builder : SublistBuilder ℕ) (g h : ℕ) (table : Sublist
   build-stamp = by_arena (each_entry root_alone builder.entries)
     where
       by_flat : (r : Outcome ℕ) (flat : List ℕ × List Node)
-          → (r >>= (λ worst_case. if ltb 1024 worst_case then Err (ForkLimitExceeded worst_case 1024) else Ok (record { nodes = flat.1; targets = flat.0; generation = g }))) ≡ Ok table
-          → (r >>= (λ worst_case. if ltb 1024 worst_case then Err (ForkLimitExceeded worst_case 1024) else Ok (record { nodes = flat.1; targets = flat.0; generation = h }))) ≡ Ok (stamp table h)
+          → (r >>= (λ worst_case. when ltb 1024 worst_case then Err (ForkLimitExceeded worst_case 1024) else Ok (record { nodes = flat.1; targets = flat.0; generation = g }))) ≡ Ok table
+          → (r >>= (λ worst_case. when ltb 1024 worst_case then Err (ForkLimitExceeded worst_case 1024) else Ok (record { nodes = flat.1; targets = flat.0; generation = h }))) ≡ Ok (stamp table h)
       by_flat (Ok n) flat e = by_worst flat n (ltb 1024 n) e
       by_flat (Err x) flat e = let z : ◌≡◌ {A = ℕ} 0 1 = cc in absurd (omega arith)
       by_flat Panic flat e = let z : ◌≡◌ {A = ℕ} 0 1 = cc in absurd (omega arith)
 
       ends : ℕ → Outcome (List ℕ × List Node) → Outcome (Sublist ℕ)
       ends k r =
-          r >>= (λ flat. worst_case_frontier flat.1 >>= (λ worst_case. if ltb 1024 worst_case then Err (ForkLimitExceeded worst_case 1024)
+          r >>= (λ flat. worst_case_frontier flat.1 >>= (λ worst_case. when ltb 1024 worst_case then Err (ForkLimitExceeded worst_case 1024)
           else Ok (record { nodes = flat.1; targets = flat.0; generation = k })))
 
       by_nodes : (r : Outcome (List ℕ × List Node)) → ends g r ≡ Ok table → ends h r ≡ Ok (stamp table h)

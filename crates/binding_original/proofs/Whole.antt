@@ -3,24 +3,18 @@
 --   original_same    tables from accepted builds, opened, fewer than 2^64 calls → the same calls of the original, its fresh snapshots and caches, EachSame
 --   pairs-same       any such calls of the original, on any such snapshots and caches → EachSame
 --   empty-same       `empty` is the snapshot of no entries
-use Prim.Native.Nat.{ℕ, ◌/◌, ◌≤◌, ◌<◌, ◌^◌, max}
+use Prim.Native.Nat.{ℕ, ◌<◌, ◌^◌, max}
 use native.Mathlib.Omega.{arith}
-use mathlib.Core.Path.{◌≡◌, refl, ◌∙◌, ap, subst}
+use mathlib.Core.Path.{◌≡◌, refl, ◌∙◌, ap}
 use mathlib.Core.Bool.{Bool, true, false}
 use mathlib.Core.List.{List, [], ◌∷◌, map}
 use lib.ListN.{length, get_or, length-map}
 use Rattle.subject_rules.specs.Choice.{pick}
-use Rattle.subject_rules.specs.Fnv.{fnv}
 use Rattle.subject_rules.specs.Answers.{answer}
 use Rattle.sublist_tree.specs.Lists.{All}
-use Rattle.sublist_tree.specs.Table.{TableEntry, entry_line}
-use Rattle.sublist_entries.specs.Entries.{read_from}
-use Rattle.sublist_rules.proofs.Composed.{lines_length}
-use Rattle.sublist_rules.proofs.Builds.{taken}
+use Rattle.sublist_tree.specs.Table.{TableEntry}
 use Rattle.sublist_original.specs.Original.{Ok, Std, Sublist, build}
 use Rattle.sublist_original.specs.Entries.{builder_of}
-use Rattle.sublist_original.proofs.Accepting.{insert_accepts}
-use Rattle.sublist_original.proofs.SameTable.{build-accepted}
 use Rattle.sublist_snapshot.specs.Snapshot.{Table, empty_table}
 use Rattle.resolve_cache_rules.specs.declared.ResolveCache as ours
 use Rattle.resolve_cache_rules.specs.Area.{Area}
@@ -28,25 +22,12 @@ use Rattle.resolve_cache_rules.specs.Cache.{short, fresh, cache_numbers, with_ca
 use Rattle.binding.specs.Calls.{Call, store, clearing, asking, resolving, asking_home, resolving_home}
 use Rattle.binding.specs.Demand.{Opened, Lent}
 use Rattle.binding.specs.Built.{BuiltFrom}
-use Rattle.binding.proofs.Builds.{built_accepts, built_bound, empty-built}
+use Rattle.binding.proofs.Builds.{empty-built}
 use Rattle.binding_original.specs.Original.{Iter, new, empty, with-capacity}
 use Rattle.binding_original.specs.Calls.{Yard, cabinet_of, NamedCall, World, Asked, asked, Tabled, SameCall, Fresh}
 use Rattle.binding_original.specs.Caches.{unseen, EachSame}
 use Rattle.binding_original.proofs.SameCalls.{firsts, calls_same}
-
--- ---- the original's tables
-
-built-few : (t : Table) (es : List TableEntry) → BuiltFrom t es → length es ≤ 2048
-built-few t es f =
-    let k = taken f.list f.store (length f.nodes_lent / 16) (length f.targets_lent) t.generation.0 (t.nodes ∷ f.worst_case ∷ t.generation.0 ∷ []) f.accepted in
-    subst (λ l. length l ≤ 2048) f.texts_read
-    (omega (arith, k.0.few, lines_length f.store f.list, length-map (read_from f.store f.list) (entry_line fnv)))
-
--- what our build accepts, the original's does
-pub their_table : (std : Std) (t : Table) (es : List TableEntry) → BuiltFrom t es → (g : ℕ) → (table : Sublist ℕ) × (build std (builder_of es) g ≡ Ok table)
-their_table std t es f g =
-    let made = build-accepted std es (built-few t es f) (builder_of es) (insert_accepts es (built_accepts t es f)) g (built_bound t es f) in
-    (made.0, made.1)
+use Rattle.binding_original.proofs.FirstTables.{built-few, their_table, FirstBuilt, first_table}
 
 -- ---- the same calls
 
@@ -110,8 +91,8 @@ original_same std iter ts es calls built lent few areas y opened = record {
   answers = pairs-same std iter ts es xs built ps.3 ps.2 (omega (arith, few, length-map xs (λ x. x.0), ap length ps.1)) areas y opened w begins alike;
 }
   where
-    made : (j : ℕ) → (table : Sublist ℕ) × (build std (builder_of (es j)) 0 ≡ Ok table)
-    made j = their_table std (ts j) (es j) (built j) 0
+    made : (j : ℕ) → (table : Sublist ℕ) × FirstBuilt std (es j) table
+    made j = first_table std (ts j) (es j) (built j)
 
     ps : (xs : List (NamedCall × Asked)) × (map (λ x. x.0) xs ≡ calls) × All (SameCall std) xs × All Lent (firsts xs)
     ps = partners std (made 0).0 calls lent

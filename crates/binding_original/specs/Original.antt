@@ -8,7 +8,7 @@
 use Rattle.std.specs.Prelude.{ℕ, ◌+◌, ◌%◌, ◌^◌, ◌≤◌, max, ◌≡◌, Bool, true, false, eqb, ltb, length}
 use mathlib.Core.List.{List, [], ◌∷◌, Memᴰ}
 use Rattle.std.proofs.Math.Option.{Option, none, some}
-use Rattle.subject_rules.specs.Original.{if◌then◌else◌, Str, equal}
+use Rattle.subject_rules.specs.Original.{when◌then◌else◌, Str, equal}
 use Rattle.sublist_original.specs.Original as sublist
 use Rattle.sublist_original.specs.Original.{Outcome, Ok, Err, Panic, ◌>>=◌, push, Std, Sublist, build, match_into}
 use Rattle.sublist_original.specs.Original.{match_subject}
@@ -88,19 +88,19 @@ module _ {T : Type 0} where
   -- `get_mut`: the entry of a key
   abbrev pub get : HashMap T → Str → Option (CacheEntry T)
   get [] key = none
-  get ((k, e) ∷ rest) key = if equal k key then some e else get rest key
+  get ((k, e) ∷ rest) key = when equal k key then some e else get rest key
 
   -- resolve_cache.rs 245: `entry.last_used = next_tick`, through what `get_mut` gave
   abbrev pub refresh : HashMap T → Str → ℕ → HashMap T
   refresh [] key next-tick = []
   refresh ((k, e) ∷ rest) key next-tick =
-      if equal k key then (k, record { targets = e.targets; last_used = next-tick }) ∷ refresh rest key next-tick
+      when equal k key then (k, record { targets = e.targets; last_used = next-tick }) ∷ refresh rest key next-tick
       else (k, e) ∷ refresh rest key next-tick
 
   -- `remove`
   abbrev pub remove : HashMap T → Str → HashMap T
   remove [] key = []
-  remove ((k, e) ∷ rest) key = if equal k key then remove rest key else (k, e) ∷ remove rest key
+  remove ((k, e) ∷ rest) key = when equal k key then remove rest key else (k, e) ∷ remove rest key
 
   -- `insert`: what stood under the key goes
   abbrev pub insert : HashMap T → Str → CacheEntry T → HashMap T
@@ -156,7 +156,7 @@ module _ {T : Type 0} where
   -- resolve_cache.rs 234-238: (2)
   abbrev pub guarded : ℕ → ResolveCache T → ResolveCache T
   guarded current_gen cache =
-      if eqb current_gen cache.generation then cache
+      when eqb current_gen cache.generation then cache
       else record { entries = []; generation = current_gen; capacity = cache.capacity; tick = 0; walks = cache.walks }
 
   -- resolve_cache.rs 280-287
@@ -167,7 +167,7 @@ module _ {T : Type 0} where
   -- resolve_cache.rs 274-288: the entries then
   abbrev pub evict_if_full : Iter T → ResolveCache T → HashMap T
   evict_if_full iter cache =
-      if ltb (length cache.entries) cache.capacity then cache.entries
+      when ltb (length cache.entries) cache.capacity then cache.entries
       else without (iter.min_by_last_used cache.entries) cache.entries
 
   -- resolve_cache.rs 244-245: the cache behind a hit

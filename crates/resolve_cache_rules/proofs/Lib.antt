@@ -4,4 +4,5 @@ pub mod Marked
 pub mod Outputs
 pub mod Put
 pub mod Rows
+pub mod Own
 pub mod Slots

@@ -20,6 +20,7 @@ use Rattle.resolve_cache_rules.specs.Mark.{mark}
 use Rattle.resolve_cache_rules.specs.Area.{Area, key_length, target_count, mark_at, stamp_at, key_at, targets_at, keep_key, keep, touch}
 use Rattle.resolve_cache_rules.specs.Cache.{short, bad_slot, bad_from, keeps_at, find_from, oldest_from, place, grown}
 use Rattle.resolve_cache_rules.specs.Ready.{Wide}
+use Rattle.resolve_cache_rules.proofs.Own.{own_mark}
 use Rattle.resolve_cache_rules.proofs.Put.{length-put, part-put, part-before, part_behind}
 use Rattle.resolve_cache_rules.proofs.Put.{get_d_put-before}
 
@@ -110,7 +111,7 @@ module _ (n : ℕ) (a : Area) (w : Wide n a) (i : ℕ) (inside : i < n) where
   -- the bytes of a key that is kept
   module _ (key : List ℕ) (count : ℕ) (filled : 1 ≤ length key) (fits : length key ≤ 256) (few : count ≤ 16) where
     abbrev own : ℕ
-    own = mark key
+    own = own_mark n a.keys i key
 
     below : 3 * n + i < length a.keys
     below = omega (arith, w.keys)

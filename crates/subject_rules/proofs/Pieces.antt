@@ -6,7 +6,7 @@ use mathlib.Core.Bool.{Bool, true, false}
 use mathlib.Core.List.{List, [], ◌∷◌}
 use lib.Dec.{eqb}
 use borrow.Author.Tests.{ne_eqb, lt-ltb}
-use Rattle.subject_rules.specs.Original.{Str, if◌then◌else◌, following, first_bits, code_point, SEP, join, split}
+use Rattle.subject_rules.specs.Original.{Str, when◌then◌else◌, following, first_bits, code_point, SEP, join, split}
 use Rattle.subject_rules.proofs.Decoding.{Tails, First, ascii, long, Decodes, decodes_tails}
 
 abbrev pub NoDot : List ℕ → Type 0
@@ -66,7 +66,7 @@ split_behind (suc n) [] d = absurd d
 split_behind (suc n) (b ∷ bs) d = rw (no_dot b d.0) (join-tail n b (split SEP bs) d.0 (split_behind n bs d.1))
 split_behind zero (b ∷ bs) d = go (eqb b SEP) refl d.0 (split_behind (following b) bs d.1)
   where
-    go : (w : Bool) → eqb b SEP ≡ w → First b bs → Behind (following b) (split SEP bs) → Behind 0 (if w then [] ∷ split SEP bs else join b (split SEP bs))
+    go : (w : Bool) → eqb b SEP ≡ w → First b bs → Behind (following b) (split SEP bs) → Behind 0 (when w then [] ∷ split SEP bs else join b (split SEP bs))
     go true e (ascii l) p = (tt, tt, behind_pieces (split SEP bs) (rw (lt-ltb b 0x80 l) at p))
     go true e (long l c) p = let z : ◌≡◌ {A = ℕ} 0 1 = cc (no_dot b l) in absurd (omega arith)
     go false e f p = join_first b (split SEP bs) e (first_head b bs (decodes_tails (following b) bs d.1) f) p

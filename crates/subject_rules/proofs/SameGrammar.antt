@@ -13,7 +13,7 @@ use Rattle.subject_rules.specs.Text.{cut_at, tokens, is_tail}
 use Rattle.subject_rules.specs.Utf8.{first_bad}
 use Rattle.subject_rules.specs.Answers.{Answer, answer, unless}
 use Rattle.subject_rules.specs.Grammar.{bad_char, first_of, bad_chars, bad_token, tail_at, check, too_long, grammar}
-use Rattle.subject_rules.specs.Original.{if◌then◌else◌, following, first_bits, code_point, chars_from, chars, SEP, WILDCARD_ONE, WILDCARD_TAIL, join, split, Error, IllegalChar, ControlChar, TooDeep, Result, Ok, Err, ◌>>=◌, is_control, TokenKind, SingleWildcard, TailWildcard, seen, wildcard_or_reject, each_char, classify_token, each_token, validate, answer_of}
+use Rattle.subject_rules.specs.Original.{when◌then◌else◌, following, first_bits, code_point, chars_from, chars, SEP, WILDCARD_ONE, WILDCARD_TAIL, join, split, Error, IllegalChar, ControlChar, TooDeep, Result, Ok, Err, ◌>>=◌, is_control, TokenKind, SingleWildcard, TailWildcard, seen, wildcard_or_reject, each_char, classify_token, each_token, validate, answer_of}
 use Rattle.subject_rules.proofs.Decoding.{First, ascii, long, Decodes, utf8_decodes}
 use Rattle.subject_rules.proofs.Pieces.{NoDot, Pieces, split_pieces}
 
@@ -44,7 +44,7 @@ char_below : (index b : ℕ) (rest bs : List ℕ) → eqb b SEP ≡ false → re
 char_below index b rest bs d ih = rw (d, or_same (ltb b 0x20) (eqb b 0x7f), or_same (eqb b 0x2a) (eqb b 0x3e)) (go (or (ltb b 0x20) (eqb b 0x7f)) (or (eqb b 0x2a) (eqb b 0x3e)))
   where
     go : (c w : Bool)
-        → refused (if c then Err (ControlChar b index) else if false then Err (IllegalChar b index) else if w then Err (IllegalChar b index) else each_char index rest)
+        → refused (when c then Err (ControlChar b index) else when false then Err (IllegalChar b index) else when w then Err (IllegalChar b index) else each_char index rest)
         ≡ first_of (pick c (some (answer 8 (b ∷ index ∷ []))) (pick w (some (answer 9 (b ∷ index ∷ []))) none)) (bad_chars index bs)
     go true w = refl
     go false true = refl
@@ -67,7 +67,7 @@ token_bad wild index [] d o = refl
 token_bad wild index (b ∷ []) d o = go (eqb b 0x2a) refl (eqb b 0x3e) refl wild
   where
     go : (s : Bool) → eqb b 0x2a ≡ s → (g : Bool) → eqb b 0x3e ≡ g → (wild : Bool)
-        → refused (if s then wildcard_or_reject SingleWildcard WILDCARD_ONE index wild else if g then wildcard_or_reject TailWildcard WILDCARD_TAIL index wild else each_char index (chars (b ∷ [])))
+        → refused (when s then wildcard_or_reject SingleWildcard WILDCARD_ONE index wild else when g then wildcard_or_reject TailWildcard WILDCARD_TAIL index wild else each_char index (chars (b ∷ [])))
         ≡ pick (or s g) (pick wild none (some (answer 7 (b ∷ index ∷ [])))) (bad_chars index (b ∷ []))
     go true e g f true = refl
     go true e g f false = rw (eqb-true b 0x2a e)
@@ -81,7 +81,7 @@ literal_seen : (index : ℕ) (cs : List ℕ) (kind : TokenKind) → each_char in
 literal_seen index [] kind e = cc
 literal_seen index (ch ∷ cs) kind e = go (is_control ch) (eqb ch SEP) (eqb ch WILDCARD_ONE || eqb ch WILDCARD_TAIL) e (literal_seen index cs kind)
   where
-    go : (a b c : Bool) → (if a then Err (ControlChar ch index) else if b then Err (IllegalChar ch index) else if c then Err (IllegalChar ch index) else each_char index cs) ≡ Ok kind
+    go : (a b c : Bool) → (when a then Err (ControlChar ch index) else when b then Err (IllegalChar ch index) else when c then Err (IllegalChar ch index) else each_char index cs) ≡ Ok kind
         → (each_char index cs ≡ Ok kind → seen kind index none ≡ none) → seen kind index none ≡ none
     go true b c e ih = cc
     go false true c e ih = cc
@@ -93,7 +93,7 @@ token_seen wild index [] kind e = cc
 token_seen wild index (b ∷ []) kind e = go (eqb b 0x2a) refl (eqb b 0x3e) refl wild e
   where
     go : (s : Bool) → eqb b 0x2a ≡ s → (g : Bool) → eqb b 0x3e ≡ g → (wild : Bool)
-        → (if s then wildcard_or_reject SingleWildcard WILDCARD_ONE index wild else if g then wildcard_or_reject TailWildcard WILDCARD_TAIL index wild else each_char index (chars (b ∷ []))) ≡ Ok kind
+        → (when s then wildcard_or_reject SingleWildcard WILDCARD_ONE index wild else when g then wildcard_or_reject TailWildcard WILDCARD_TAIL index wild else each_char index (chars (b ∷ []))) ≡ Ok kind
         → seen kind index none ≡ tail_at g index
     go true q g r true e =
         let star : b ≡ 0x2a = eqb-true b 0x2a q in
@@ -119,7 +119,7 @@ tokens-checked wild count none (t ∷ ts) p =
     go false q (Err e) k b ih = rw (q, k, ← b)
 
 -- both cut a text alike
-cut_same : (w : Bool) (b : ℕ) (ts : List (List ℕ)) → (if w then [] ∷ ts else join b ts) ≡ cut_at w b ts
+cut_same : (w : Bool) (b : ℕ) (ts : List (List ℕ)) → (when w then [] ∷ ts else join b ts) ≡ cut_at w b ts
 cut_same true b ts = refl
 cut_same false b [] = refl
 cut_same false b (t ∷ ts) = refl
@@ -145,7 +145,7 @@ tokens-counted wild count (some at) (t ∷ ts) n e = never e
 tokens-counted wild count none (t ∷ ts) n e = go (eqb count 32) refl (classify_token t count wild) e (λ passed. tokens-counted wild (count + 1) passed ts n)
   where
     go : (w : Bool) → eqb count 32 ≡ w → (r : Result TokenKind)
-        → (if w then Err (TooDeep (count + 1)) else r >>= λ kind. each_token wild (count + 1) (seen kind count none) ts) ≡ Ok n
+        → (when w then Err (TooDeep (count + 1)) else r >>= λ kind. each_token wild (count + 1) (seen kind count none) ts) ≡ Ok n
         → ((passed : Option ℕ) → each_token wild (count + 1) passed ts ≡ Ok n → (count + 1 + length ts ≡ n) × (count + 1 ≤ 32 → n ≤ 32))
         → (count + length (t ∷ ts) ≡ n) × (count ≤ 32 → n ≤ 32)
     go true q r e ih = never e

@@ -12,11 +12,11 @@ use Rattle.subject_rules.specs.Utf8.{first_bad}
 use Rattle.subject_rules.specs.Answers.{Answer, said, when_accepted}
 use Rattle.subject_rules.specs.Grammar.{grammar}
 use Rattle.subject_rules.specs.Matching.{match_tokens, matching}
-use Rattle.subject_rules.specs.Original.{if◌then◌else◌, equal, WILDCARD_ONE, WILDCARD_TAIL, SEP, split, Error, Empty, EmptyToken, IllegalChar, ControlChar, WildcardNotAllowed, TailWildcardNotLast, TooDeep, Ok, Err, validate, match_loop, matches, last, is-tail, has_tail_wildcard, answer_of}
+use Rattle.subject_rules.specs.Original.{when◌then◌else◌, equal, WILDCARD_ONE, WILDCARD_TAIL, SEP, split, Error, Empty, EmptyToken, IllegalChar, ControlChar, WildcardNotAllowed, TailWildcardNotLast, TooDeep, Ok, Err, validate, match_loop, matches, last, is-tail, has_tail_wildcard, answer_of}
 use Rattle.subject_rules.proofs.SameGrammar.{split-tokens, grammar_original}
 
 -- tests in the two spellings
-if_and : (w : Bool) (a b : Bool) → a ≡ b → (if w then a else false) ≡ and w b
+if_and : (w : Bool) (a b : Bool) → a ≡ b → (when w then a else false) ≡ and w b
 if_and true a b e = e
 if_and false a b e = refl
 
@@ -50,13 +50,13 @@ loop_tokens [] [] = refl
 loop_tokens [] (s ∷ ss) = refl
 loop_tokens (p ∷ ps) [] = go (equal p (WILDCARD_TAIL ∷ []))
   where
-    go : (t : Bool) → (if t then false else false) ≡ false
+    go : (t : Bool) → (when t then false else false) ≡ false
     go true = refl
     go false = refl
 loop_tokens (p ∷ ps) (s ∷ ss) =
     rw (equal-tail p, equal-star p, equal-same p s, loop_tokens ps ss) (go (is_tail p) (is_star p) (same p s) (match_tokens ps ss))
   where
-    go : (t w e again : Bool) → (if t then true else if w then again else if e then again else false) ≡ pick t true (and (or w e) again)
+    go : (t w e again : Bool) → (when t then true else when w then again else when e then again else false) ≡ pick t true (and (or w e) again)
     go true w e again = refl
     go false true e again = refl
     go false false true again = refl

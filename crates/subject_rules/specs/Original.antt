@@ -8,12 +8,12 @@ use Rattle.std.specs.Prelude.{ℕ, zero, suc, ◌+◌, ◌*◌, ◌%◌, Bool, t
 use Rattle.std.proofs.Math.Option.{Option, none, some}
 use Rattle.subject_rules.specs.Answers.{Answer, answer}
 
-infixr 1 if◌then◌else◌
+infixr 1 when◌then◌else◌
 infixl 3 ◌>>=◌
 -- `if`
-abbrev pub if◌then◌else◌ {ℓ} : {A : Type ℓ} → Bool → A → A → A
-if true then a else b = a
-if false then a else b = b
+abbrev pub when◌then◌else◌ {ℓ} : {A : Type ℓ} → Bool → A → A → A
+when true then a else b = a
+when false then a else b = b
 
 -- &str AND char
 
@@ -33,23 +33,23 @@ abbrev pub equal : Str → Str → Bool
 equal [] [] = true
 equal [] (c ∷ cs) = false
 equal (b ∷ bs) [] = false
-equal (b ∷ bs) (c ∷ cs) = if eqb b c then equal bs cs else false
+equal (b ∷ bs) (c ∷ cs) = when eqb b c then equal bs cs else false
 
 -- `chars`, by the table of RFC 3629, section 3. The first octet of a sequence is 0xxxxxxx, 110xxxxx, 1110xxxx or
 -- 11110xxx, and tells how many follow it.
 abbrev pub following : ℕ → ℕ
 following first =
-    if ltb first 0x80 then 0
-    else if ltb first 0xe0 then 1
-    else if ltb first 0xf0 then 2
+    when ltb first 0x80 then 0
+    else when ltb first 0xe0 then 1
+    else when ltb first 0xf0 then 2
     else 3
 
 -- the bits marked x of the first octet
 abbrev pub first_bits : ℕ → ℕ
 first_bits first =
-    if ltb first 0x80 then first
-    else if ltb first 0xe0 then first % 0x20
-    else if ltb first 0xf0 then first % 0x10
+    when ltb first 0x80 then first
+    else when ltb first 0xe0 then first % 0x20
+    else when ltb first 0xf0 then first % 0x10
     else first % 0x08
 
 -- behind the bits so far, the six of each octet that follows, 10xxxxxx
@@ -74,7 +74,7 @@ join b (token ∷ rest) = (b ∷ token) ∷ rest
 
 abbrev pub split : Char → Str → List Str
 split sep [] = [] ∷ []
-split sep (b ∷ bs) = if eqb b sep then [] ∷ split sep bs else join b (split sep bs)
+split sep (b ∷ bs) = when eqb b sep then [] ∷ split sep bs else join b (split sep bs)
 
 -- ITERATORS AND RESULTS
 
@@ -141,30 +141,30 @@ pub data TokenKind : Type 0 where
 -- subject.rs 243-254
 abbrev pub wildcard_or_reject : TokenKind → Char → ℕ → Bool → Result TokenKind
 wildcard_or_reject kind ch index allow_wildcards =
-    if allow_wildcards then Ok kind else Err (WildcardNotAllowed ch index)
+    when allow_wildcards then Ok kind else Err (WildcardNotAllowed ch index)
 
 -- subject.rs 223-236: the loop over the characters, and what stands behind it
 abbrev pub each_char : ℕ → List Char → Result TokenKind
 each_char index [] = Ok Literal
 each_char index (ch ∷ rest) =
-    if is_control ch then Err (ControlChar ch index)
-    else if eqb ch SEP then Err (IllegalChar ch index)
-    else if eqb ch WILDCARD_ONE || eqb ch WILDCARD_TAIL then Err (IllegalChar ch index)
+    when is_control ch then Err (ControlChar ch index)
+    else when eqb ch SEP then Err (IllegalChar ch index)
+    else when eqb ch WILDCARD_ONE || eqb ch WILDCARD_TAIL then Err (IllegalChar ch index)
     else each_char index rest
 
 -- subject.rs 202-218: a token whose only byte is `only`; `literal` is what the loop gives
 abbrev pub lone : ℕ → ℕ → Bool → Result TokenKind → Result TokenKind
 lone only index allow_wildcards literal =
-    if eqb only WILDCARD_ONE then wildcard_or_reject SingleWildcard WILDCARD_ONE index allow_wildcards
-    else if eqb only WILDCARD_TAIL then wildcard_or_reject TailWildcard WILDCARD_TAIL index allow_wildcards
+    when eqb only WILDCARD_ONE then wildcard_or_reject SingleWildcard WILDCARD_ONE index allow_wildcards
+    else when eqb only WILDCARD_TAIL then wildcard_or_reject TailWildcard WILDCARD_TAIL index allow_wildcards
     else literal
 
 -- subject.rs 188-237
 abbrev pub classify_token : Str → ℕ → Bool → Result TokenKind
 classify_token token index allow_wildcards =
     let literal = each_char index (chars token) in
-    if is_empty token then Err (EmptyToken index)
-    else if eqb (length token) 1 then lone (get_or token 0 0) index allow_wildcards literal
+    when is_empty token then Err (EmptyToken index)
+    else when eqb (length token) 1 then lone (get_or token 0 0) index allow_wildcards literal
     else literal
 
 -- subject.rs 295-297: `tail_seen_at` behind a token of this kind
@@ -178,7 +178,7 @@ abbrev pub each_token : Bool → ℕ → Option ℕ → List Str → Result ℕ
 each_token allow_wildcards count tail-seen-at [] = Ok count
 each_token allow_wildcards count (some at) (token ∷ rest) = Err (TailWildcardNotLast at)
 each_token allow_wildcards count none (token ∷ rest) =
-    if eqb count MAX_SUBJECT_DEPTH then Err (TooDeep (count + 1))
+    when eqb count MAX_SUBJECT_DEPTH then Err (TooDeep (count + 1))
     else do
       kind ← classify_token token count allow_wildcards
       each_token allow_wildcards (count + 1) (seen kind count none) rest
@@ -187,7 +187,7 @@ each_token allow_wildcards count none (token ∷ rest) =
 -- both keep the text, and the count as `depth`.
 abbrev pub validate : Str → Bool → Result ℕ
 validate input allow_wildcards =
-    if is_empty input then Err Empty
+    when is_empty input then Err Empty
     else each_token allow_wildcards 0 none (split SEP input)
 
 -- MATCHING
@@ -213,15 +213,15 @@ has_tail_wildcard raw = is-tail (last (split SEP raw))
 -- subject.rs 441-446: the arms below `Some(p)`; `again` is what the loop's next turn gives
 abbrev pub one_token : Str → Option Str → Bool → Bool
 one_token p (some s) again =
-    if equal p (WILDCARD_ONE ∷ []) then again
-    else if equal p s then again
+    when equal p (WILDCARD_ONE ∷ []) then again
+    else when equal p s then again
     else false
 one_token p none again = false
 
 -- subject.rs 433-453: the loop, over what is left of `pat` and of `sub`
 abbrev pub match_loop : List Str → List Str → Bool
 match_loop (p ∷ pat) sub =
-    if equal p (WILDCARD_TAIL ∷ []) then is_some (next sub)
+    when equal p (WILDCARD_TAIL ∷ []) then is_some (next sub)
     else one_token p (next sub) (match_loop pat (after_next sub))
 match_loop [] sub = is_none (next sub)
 

@@ -12,7 +12,7 @@ use Rattle.subject_rules.specs.Choice.{pick, and}
 use Rattle.subject_rules.specs.Text.{tokens, is_star, is_tail}
 use Rattle.subject_rules.specs.Fnv.{fnv}
 use Rattle.subject_rules.specs.Original as subject
-use Rattle.subject_rules.specs.Original.{if◌then◌else◌, equal, WILDCARD_ONE, WILDCARD_TAIL, validate}
+use Rattle.subject_rules.specs.Original.{when◌then◌else◌, equal, WILDCARD_ONE, WILDCARD_TAIL, validate}
 use Rattle.subject_rules.proofs.SameGrammar.{split-tokens, depth_original, depth_bounded}
 use Rattle.sublist_tree.specs.Lists.{All}
 use Rattle.sublist_tree.specs.Tree.{Key, star, lit, Line, line, onto, target_of, line_of, keys_of}
@@ -29,7 +29,7 @@ use Rattle.sublist_original.proofs.Arenas.{Stands, stepped, descend, descend_the
 
 -- ---- tests in the two spellings
 
-if_and : (w : Bool) (b : Bool) → (if w then b else false) ≡ and w b
+if_and : (w : Bool) (b : Bool) → (when w then b else false) ≡ and w b
 if_and true b = refl
 if_and false b = refl
 
@@ -71,7 +71,7 @@ token_down : (x p : ℕ) (a : Arena ℕ) (token : List ℕ) (rest : List (List �
 unfolding each_token
 token_down x p a token rest e = rw (equal-tail token, e, equal-star token) (go (is_star token))
   where
-    go : (b : Bool) → (if b then (descend a p star >>= λ next. each_token x next.0 next.1 rest) else descend a p (lit (fnv token)) >>= λ next. each_token x next.0 next.1 rest)
+    go : (b : Bool) → (when b then (descend a p star >>= λ next. each_token x next.0 next.1 rest) else descend a p (lit (fnv token)) >>= λ next. each_token x next.0 next.1 rest)
         ≡ (descend a p (pick b star (lit (fnv token))) >>= λ next. each_token x next.0 next.1 rest)
     go true = refl
     go false = refl

@@ -13,7 +13,7 @@ use borrow.Author.Tests.{le-ltb}
 use Rattle.subject_rules.specs.Answers.{Answer}
 use Rattle.subject_rules.specs.Grammar.{first_of}
 use Rattle.subject_rules.specs.Original as subject
-use Rattle.subject_rules.specs.Original.{Str, Error, Empty, EmptyToken, IllegalChar, ControlChar, WildcardNotAllowed, TailWildcardNotLast, TooDeep, if◌then◌else◌, validate, tokens, answer_of}
+use Rattle.subject_rules.specs.Original.{Str, Error, Empty, EmptyToken, IllegalChar, ControlChar, WildcardNotAllowed, TailWildcardNotLast, TooDeep, when◌then◌else◌, validate, tokens, answer_of}
 use Rattle.subject_rules.proofs.SameGrammar.{grammar_original}
 use Rattle.sublist_tree.specs.Lists.{All}
 use Rattle.sublist_tree.specs.Table.{TableEntry}
@@ -99,7 +99,7 @@ each_append ((p, t) ∷ xs) ys a b e = parses (λ c f. each_append xs ys c b f) 
     More = (c : Arena ℕ) → each_entry c xs ≡ Ok b → each_entry c (xs ++ ys) ≡ each_entry b ys
 
     ends : (placed : NodeId × Bool × Arena ℕ) → Outcome (Arena ℕ)
-    ends placed = if not placed.1 then push_terminal placed.2 placed.0 t else Ok placed.2
+    ends placed = when not placed.1 then push_terminal placed.2 placed.0 t else Ok placed.2
 
     joins : More → (m : Outcome (Arena ℕ)) → (m >>= (λ c. each_entry c xs)) ≡ Ok b → (m >>= (λ c. each_entry c (xs ++ ys))) ≡ each_entry b ys
     joins more (Ok c) e = more c e

@@ -23,7 +23,7 @@ use borrow.Author.Tests.{lt-ltb, le-ltb}
 use Rattle.subject_rules.specs.Text.{tokens}
 use Rattle.subject_rules.specs.Fnv.{fnv}
 use Rattle.subject_rules.specs.Original as subject
-use Rattle.subject_rules.specs.Original.{if◌then◌else◌}
+use Rattle.subject_rules.specs.Original.{when◌then◌else◌}
 use Rattle.sublist_tree.specs.Lists.{All}
 use Rattle.sublist_tree.specs.Tree.{Line, walk, worst}
 use Rattle.sublist_tree.specs.Nodes.{nodes}
@@ -85,7 +85,7 @@ module _ (std : Std) (es : List TableEntry) (valid : All Valid es) (few : length
 
   module _ (builder : SublistBuilder ℕ) (entries : builder.entries ≡ pairs es) (generation : ℕ) where
     build-is : build std builder generation
-        ≡ (if ltb 1024 (worst eqb 32 ls) then Err (ForkLimitExceeded (worst eqb 32 ls) 1024) else Ok (table_of generation))
+        ≡ (when ltb 1024 (worst eqb 32 ls) then Err (ForkLimitExceeded (worst eqb 32 ls) 1024) else Ok (table_of generation))
     unfolding build
     build-is = rw (entries, (entered es valid few).1, flat.1, worst-found 32 ls (lines_within es valid) flat.0.1 flat.0.0 holds)
 

@@ -10,7 +10,7 @@ use lib.Dec.{eqb, ltb}
 use lib.ListN.{length, get_or, set, replicate, length-set, length-replicate}
 use lib.Seq.{get_or-set_same, get_or-set_other}
 use borrow.Author.Tests.{eq-eqb, ltb-false}
-use Rattle.subject_rules.specs.Original.{if◌then◌else◌}
+use Rattle.subject_rules.specs.Original.{when◌then◌else◌}
 use Rattle.sublist_tree.specs.Lists.{largest}
 use Rattle.sublist_tree.specs.Tree.{Key, star, lit, Line, if_any, below, heads, worst}
 use Rattle.sublist_tree.proofs.Fork.{Within, worst_fuel}
@@ -55,7 +55,7 @@ deeper-sum : (s l : ℕ) → max (deeper s l) 1 ≡ max 1 (s + l)
 unfolding deeper
 deeper-sum s l = go (ltb 0 s) refl (ltb 0 l) refl
   where
-    go : (b : Bool) → ltb 0 s ≡ b → (c : Bool) → ltb 0 l ≡ c → max (if b && c then s + l else max s l) 1 ≡ max 1 (s + l)
+    go : (b : Bool) → ltb 0 s ≡ b → (c : Bool) → ltb 0 l ≡ c → max (when b && c then s + l else max s l) 1 ≡ max 1 (s + l)
     go true e true d = omega arith
     go true e false d = omega (arith, ltb-false 0 l d)
     go false e c d = omega (arith, ltb-false 0 s e)

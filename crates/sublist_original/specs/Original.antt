@@ -11,7 +11,7 @@
 use Rattle.std.specs.Prelude.{ℕ, zero, suc, ◌+◌, ◌-◌, ◌≤◌, max, ◌≡◌, Bool, true, false, not, ◌&&◌, List, [], ◌∷◌, ◌++◌, eqb, ltb, leb, length, take, drop, replicate}
 use Rattle.std.proofs.Math.Option.{Option, none, some}
 use Rattle.subject_rules.specs.Original as subject
-use Rattle.subject_rules.specs.Original.{if◌then◌else◌, Str, equal, Error, WILDCARD_ONE, WILDCARD_TAIL, validate, tokens}
+use Rattle.subject_rules.specs.Original.{when◌then◌else◌, Str, equal, Error, WILDCARD_ONE, WILDCARD_TAIL, validate, tokens}
 use Rattle.subject_rules.specs.Fnv.{fnv}
 
 infixl 3 ◌>>=◌
@@ -53,7 +53,7 @@ parsed (subject.Err e) = Err (InvalidPattern e)
 
 -- `u32::try_from(n).expect(..)`
 abbrev pub u32_from : ℕ → Outcome ℕ
-u32_from n = if ltb n 0x100000000 then Ok n else Panic
+u32_from n = when ltb n 0x100000000 then Ok n else Panic
 
 -- `assert!`
 abbrev pub assert : Bool → Outcome Unit
@@ -81,12 +81,12 @@ change (x ∷ xs) (suc i) f = do
 
 -- `&xs[start..end]`
 abbrev pub slice : {A : Type 0} → List A → ℕ → ℕ → Outcome (List A)
-slice xs start end = if leb start end && leb end (length xs) then Ok (take (end - start) (drop start xs)) else Panic
+slice xs start end = when leb start end && leb end (length xs) then Ok (take (end - start) (drop start xs)) else Panic
 
 -- `contains`
 abbrev pub contains : List NodeId → NodeId → Bool
 contains [] id = false
-contains (x ∷ xs) id = if eqb x id then true else contains xs id
+contains (x ∷ xs) id = when eqb x id then true else contains xs id
 
 -- THE STANDARD LIBRARY
 
@@ -167,7 +167,7 @@ new_scratch = record { literals = []; star_child = none }
 -- sublist.rs 458-463: `find`, by the first that has the hash
 abbrev pub find : List Literal → ℕ → Option NodeId
 find [] hash = none
-find ((h, n) ∷ rest) hash = if eqb h hash then some n else find rest hash
+find ((h, n) ∷ rest) hash = when eqb h hash then some n else find rest hash
 
 abbrev pub scratch_literal_child : NodeScratch → ℕ → Option NodeId
 scratch_literal_child node hash = find node.literals hash
@@ -249,11 +249,11 @@ push_terminal arena cur target = do
 unfoldable pub each_token : {T : Type 0} → T → NodeId → Arena T → List Str → Outcome (NodeId × Bool × Arena T)
 each_token target cur arena [] = Ok (cur, false, arena)
 each_token target cur arena (token ∷ rest) =
-    if equal token (WILDCARD_TAIL ∷ []) then
+    when equal token (WILDCARD_TAIL ∷ []) then
     (do
       arena' ← push_gt_terminal arena cur target
       Ok (cur, true, arena'))
-    else if equal token (WILDCARD_ONE ∷ []) then
+    else when equal token (WILDCARD_ONE ∷ []) then
     (do
       next ← descend_star arena cur
       each_token target next.0 next.1 rest)
@@ -267,7 +267,7 @@ each_entry arena [] = Ok arena
 each_entry arena ((pattern, target) ∷ rest) = do
   depth ← parsed (validate pattern true)
   placed ← each_token target ROOT arena (tokens pattern)
-  arena' ← if not placed.1 then push_terminal placed.2 placed.0 target else Ok placed.2
+  arena' ← when not placed.1 then push_terminal placed.2 placed.0 target else Ok placed.2
   each_entry arena' rest
 
 -- sublist.rs 183-195
@@ -301,7 +301,7 @@ star_of wcf (some c) = wcf ! c
 
 -- sublist.rs 430-434
 unfoldable pub deeper : ℕ → ℕ → ℕ
-deeper star best = if ltb 0 star && ltb 0 best then star + best else max star best
+deeper star best = when ltb 0 star && ltb 0 best then star + best else max star best
 
 -- sublist.rs 412-436: the loop over the ids, from the last to 0; `wcf` then
 unfoldable pub each_id : List Node → ℕ → List ℕ → Outcome (List ℕ)
@@ -352,7 +352,7 @@ module _ (std : Std) where
     arena ← each_entry root_alone builder.entries
     flat ← each_scratch arena 0 arena.nodes [] []
     worst_case ← worst_case_frontier flat.1
-    if ltb MAX_FORK_FRONTIER worst_case then Err (ForkLimitExceeded worst_case MAX_FORK_FRONTIER)
+    when ltb MAX_FORK_FRONTIER worst_case then Err (ForkLimitExceeded worst_case MAX_FORK_FRONTIER)
         else Ok (record { nodes = flat.1; targets = flat.0; generation = generation })
 
 -- THE WALK
@@ -365,7 +365,7 @@ node_count table = length table.nodes
 unfoldable pub push_unique_capped : List NodeId → NodeId → Outcome (List NodeId)
 push_unique_capped frontier id = do
   _ ← assert (ltb (length frontier) MAX_FORK_FRONTIER)
-  if not (contains frontier id) then Ok (push frontier id) else Ok frontier
+  when not (contains frontier id) then Ok (push frontier id) else Ok frontier
 
 -- `if let Some(child) = .. { push_unique_capped(&mut next, child); }`
 unfoldable pub push_some : List NodeId → Option NodeId → Outcome (List NodeId)
@@ -414,7 +414,7 @@ module _ (std : Std) where
   each_level table [] out frontier = each_live table frontier out
   each_level table (token ∷ rest) out frontier = do
     level ← each_nid table (fnv token) frontier out []
-    if eqb (length level.1) 0 then Ok level.0 else each_level table rest level.0 level.1
+    when eqb (length level.1) 0 then Ok level.0 else each_level table rest level.0 level.1
 
   -- sublist.rs 582-617, of the text of a parsed subject
   unfoldable pub match_into : {T : Type 0} → Sublist T → Str → List T → Outcome (List T)

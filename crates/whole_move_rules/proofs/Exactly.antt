@@ -2,13 +2,12 @@
 --
 --   move-asked    the definition gives what is asked
 --   move-only     whatever is asked is what the definition gives
-use Prim.Native.Nat.{ℕ, suc, ◌≤◌, ◌<◌}
+use Prim.Native.Nat.{ℕ, suc, ◌≤◌}
 use native.Mathlib.Nat.{zero-add}
 use mathlib.Core.Path.{◌≡◌, refl, sym, ◌∙◌, ap, subst}
 use mathlib.Core.Logic.{◌⊎◌, inl, inr}
 use mathlib.Core.Bool.{Bool, true, false}
 use mathlib.Core.List.{List, [], ◌∷◌, ◌++◌, map}
-use mathlib.Core.Option.{some}
 use lib.Dec.{ltb}
 use lib.ListN.{length}
 use borrow.Author.Tests.{lt-ltb, le-ltb, ltb-true, ltb-false}
@@ -22,8 +21,9 @@ use Rattle.binding.specs.declared.Resolution.{Resolution}
 use Rattle.binding.specs.declared.Resolution.TheVariants.{Routed}
 use Rattle.whole_move_rules.specs.Move.{Span, text_at, bad_subjects, routed, stopped, turned_down, Routes, targets, ended, routes, Moved, left, written, whole_move}
 use Rattle.whole_move_rules.specs.Asked.{Sound, OwnRefusal, IsRouted, RoutedTo, Ready, too_large, own_refusal, no_table, damaged, stops, out_short, writes, ByWalk, Fails, MoveAsked}
-use Rattle.whole_move_rules.proofs.Subjects.{all_pass, earliest_refuses, Earliest, subjects_are}
+use Rattle.whole_move_rules.proofs.Subjects.{earliest_refuses, Earliest, subjects_are}
 use Rattle.whole_move_rules.proofs.Verdicts.{come_stop, come_broken, come_all, Comes, every, stop, break, comes}
+use Rattle.whole_move_rules.proofs.Stages.{large_is, refused-is, damaged-is, walked-is}
 
 -- as many targets as subjects
 pub one_each : (Judges : List ℕ → Resolution → Type 0) (bytes : List ℕ) (xs : List Span) (ts : List ℕ) → RoutedTo Judges bytes xs ts → length ts ≡ length xs
@@ -43,32 +43,14 @@ targets_of Judges bytes [] a = ([], tt)
 targets_of Judges bytes (x ∷ xs) a = let r = targets_of Judges bytes xs a.1 in (a.0.0 ∷ r.0, (a.0.1, r.1))
 
 module _ (s : Snapshot) (area bytes : List ℕ) (spans : List Span) (out : List ℕ) where
-  -- what each stage of the definition gives
-  large_is : 64 < length spans → whole_move s area bytes spans out ≡ left (turned_down (answer 22 [])) out
-  unfolding whole_move
-  large_is h = rw (lt-ltb 64 (length spans) h)
-
-  refused-is : length spans ≤ 64 → (r : Answer) → bad_subjects bytes 0 spans ≡ some r → whole_move s area bytes spans out ≡ left (turned_down r) out
-  unfolding whole_move
-  refused-is h r e = rw (le-ltb 64 (length spans) h, e)
-
   earliest_is : length spans ≤ 64 → (front rest : List Span) (x : Span) (r : Answer) → spans ≡ front ++ (x ∷ rest) → All (Sound bytes) front → OwnRefusal bytes x (length front) r
       → whole_move s area bytes spans out ≡ left (turned_down r) out
   earliest_is few front rest x r q a o =
-      refused-is few r (ap (bad_subjects bytes 0) q ∙ earliest_refuses bytes 0 front rest x r a (subst (λ p. OwnRefusal bytes x p r) (sym (zero-add (length front))) o))
-
-  module _ (few : length spans ≤ 64) (sound : All (Sound bytes) spans) where
-    damaged-is : stands_in s area ≡ false → whole_move s area bytes spans out ≡ left (turned_down (answer 19 [])) out
-    unfolding whole_move
-    damaged-is e = rw (le-ltb 64 (length spans) few, all_pass bytes 0 spans sound, e)
-
-    walked-is : stands_in s area ≡ true → (r : Routes) → routes (walk_of s area) 0 (map (text_at bytes) spans) ≡ r → whole_move s area bytes spans out ≡ written r out
-    unfolding whole_move
-    walked-is e r q = rw (le-ltb 64 (length spans) few, all_pass bytes 0 spans sound, e, q)
+      refused-is s area bytes spans out few r (ap (bad_subjects bytes 0) q ∙ earliest_refuses bytes 0 front rest x r a (subst (λ p. OwnRefusal bytes x p r) (sym (zero-add (length front))) o))
 
   module _ (ready : Ready (stands_in s area) bytes spans) where
     routes-is : (r : Routes) → routes (walk_of s area) 0 (map (text_at bytes) spans) ≡ r → whole_move s area bytes spans out ≡ written r out
-    routes-is r q = walked-is ready.few ready.sound ready.fits r q
+    routes-is r q = walked-is s area bytes spans out ready.few ready.sound ready.fits r q
 
     stop_is : (front rest : List Span) (x : Span) (v : Resolution) → spans ≡ front ++ (x ∷ rest) → All (IsRouted (ByWalk s area) bytes) front → ByWalk s area (text_at bytes x) v
         → ((t : ℕ) → v ≡ Routed t → ⊥) → whole_move s area bytes spans out ≡ left (stopped (length front) v) out
@@ -90,9 +72,9 @@ module _ (s : Snapshot) (area bytes : List ℕ) (spans : List Span) (out : List 
 
   -- whatever is asked is what the definition gives
   pub move-only : (m : Moved) → MoveAsked s area bytes spans out m → m ≡ whole_move s area bytes spans out
-  move-only m (too_large h e) = e ∙ sym (large_is h)
+  move-only m (too_large h e) = e ∙ sym (large_is s area bytes spans out h)
   move-only m (own_refusal front rest x r few q a o e) = e ∙ sym (earliest_is few front rest x r q a o)
-  move-only m (no_table few a c e) = e ∙ sym (damaged-is few a c)
+  move-only m (no_table few a c e) = e ∙ sym (damaged-is s area bytes spans out few a c)
   move-only m (damaged front rest x ready q a f e) = e ∙ sym (break_is ready front rest x q a f)
   move-only m (stops front rest x v ready q a j n e) = e ∙ sym (stop_is ready front rest x v q a j n)
   move-only m (out_short ready a h e) =
@@ -116,7 +98,7 @@ module _ (s : Snapshot) (area bytes : List ℕ) (spans : List Span) (out : List 
 
       counts : length spans ≤ 64 → All (Sound bytes) spans → (b : Bool) → stands_in s area ≡ b → MoveAsked s area bytes spans out (whole_move s area bytes spans out)
       counts few a true e = walked (record { few = few; sound = a; fits = e }) (comes (walk_of s area) bytes spans)
-      counts few a false e = no_table few a e (damaged-is few a e)
+      counts few a false e = no_table few a e (damaged-is s area bytes spans out few a e)
 
       texts : length spans ≤ 64 → All (Sound bytes) spans ⊎ Earliest bytes 0 spans → MoveAsked s area bytes spans out (whole_move s area bytes spans out)
       texts few (inl a) = counts few a (stands_in s area) refl
@@ -125,5 +107,5 @@ module _ (s : Snapshot) (area bytes : List ℕ) (spans : List Span) (out : List 
           own_refusal e.front e.rest e.at e.refusal few e.split e.sound own (earliest_is few e.front e.rest e.at e.refusal e.split e.sound own)
 
       large : (b : Bool) → ltb 64 (length spans) ≡ b → MoveAsked s area bytes spans out (whole_move s area bytes spans out)
-      large true e = let h = ltb-true 64 (length spans) e in too_large h (large_is h)
+      large true e = let h = ltb-true 64 (length spans) e in too_large h (large_is s area bytes spans out h)
       large false e = texts (ltb-false 64 (length spans) e) (subjects_are bytes 0 spans)
