@@ -1070,12 +1070,26 @@ fn replay_and_report(rt: &impl Print, recording: &[u8]) -> io::Result<()> {
 // Room for a recording.
 const RECORDING_BYTES: usize = 262144;
 
-fn read_and_replay(rt: &(impl Input + Print), room: &mut Vec<u8>) -> io::Result<()> {
-    rt.reader().take(RECORDING_BYTES as u64).read_to_end(room)?;
-    replay_and_report(rt, room.as_slice())
+// Reads until nothing more comes or there is no more room, and says how many bytes came.
+fn read_full(rt: &impl Input, room: &mut [u8]) -> io::Result<usize> {
+    let mut reader = rt.reader();
+    let mut n = 0;
+    while n < room.len() {
+        let came = reader.read(&mut room[n..])?;
+        if came == 0 {
+            return Ok(n);
+        }
+        n += came;
+    }
+    Ok(n)
+}
+
+fn read_and_replay(rt: &(impl Input + Print), room: &mut [u8]) -> io::Result<()> {
+    let n = read_full(rt, room)?;
+    replay_and_report(rt, first_bytes(room, n))
 }
 
 fn main(rt: HostRuntime) -> io::Result<()> {
-    let mut recording = Vec::new(rt.alloc());
+    let mut recording = [0u8; RECORDING_BYTES];
     read_and_replay(&rt, &mut recording)
 }
