@@ -4,7 +4,8 @@
 // less one; the number of targets; the mark, low byte and high byte) and then 256 bytes a slot, `kept` 16 targets.
 #![tactic(auto)]
 
-ghost use Rattle.std.specs.Prelude.{◌≡◌, ℕ, ◌+◌, ◌-◌, ◌*◌, ◌/◌, ◌%◌, ◌<◌, ◌≤◌, true, false, [], ◌∷◌, length, set, ◌≢◌, slice_index, slice_set};
+ghost use Rattle.std.specs.Prelude.{◌≡◌, ℕ, ◌+◌, ◌-◌, ◌*◌, ◌/◌, ◌%◌, ◌<◌, ◌≤◌, true, false, []};
+ghost use Rattle.std.specs.Prelude.{◌∷◌, length, set, ◌≢◌, slice_index, slice_set};
 ghost use Rattle.subject_rules.specs.Answers.{answer, when_accepted};
 ghost use Rattle.subject.specs.Answers.{parsed};
 ghost use Rattle.sublist_tree.specs.Lists.{put};

@@ -8,7 +8,8 @@
 -- `debug_assert!` that fails.
 -- The parser is that of subject.rs, transcribed in the crate `subject`. FNV-1a stands in for `xxh3_64`. Nothing else of
 -- ours is cited.
-use Rattle.std.specs.Prelude.{ℕ, zero, suc, ◌+◌, ◌-◌, ◌≤◌, max, ◌≡◌, Bool, true, false, not, ◌&&◌, List, [], ◌∷◌, ◌++◌, eqb, ltb, leb, length, take, drop, replicate}
+use Rattle.std.specs.Prelude.{ℕ, zero, suc, ◌+◌, ◌-◌, ◌≤◌, max, ◌≡◌, Bool, true, false, not, ◌&&◌}
+use Rattle.std.specs.Prelude.{List, [], ◌∷◌, ◌++◌, eqb, ltb, leb, length, take, drop, replicate}
 use Rattle.std.proofs.Math.Option.{Option, none, some}
 use Rattle.subject_rules.specs.Original as subject
 use Rattle.subject_rules.specs.Original.{when◌then◌else◌, Str, equal, Error, WILDCARD_ONE, WILDCARD_TAIL, validate, tokens}
