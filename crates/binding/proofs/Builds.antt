@@ -1,6 +1,5 @@
 -- What an accepted build's answer says of its entries: their texts are accepted, and their worst case is at most 1,024.
 use Prim.Native.Nat.{ℕ, zero, suc, ◌+◌, ◌/◌, ◌≤◌}
-use native.Mathlib.Omega.{arith}
 use mathlib.Core.Path.{◌≡◌, refl, ◌∙◌, ap, subst}
 use mathlib.Core.Bool.{Bool, true, false}
 use mathlib.Core.List.{List, [], ◌∷◌}
@@ -29,18 +28,18 @@ use Rattle.binding.proofs.Tokens.{token_refuses}
 
 -- 13 holds a number that is not 0
 held_refuses : (o : Answer) (values : List ℕ) → invalid o ≡ some (answer 0 values) → ⊥
-held_refuses (answer zero vs) values e = let z : ◌≡◌ {A = ℕ} 0 1 = cc in omega arith
-held_refuses (answer (suc n) vs) values e = let z : ◌≡◌ {A = ℕ} 0 1 = cc in omega arith
+held_refuses (answer zero vs) values e = cc
+held_refuses (answer (suc n) vs) values e = cc
 
 entry_refuses : (store : List ℕ) (index : ℕ) (e : Entry) (values : List ℕ) → bad_entry store index e ≡ some (answer 0 values) → ⊥
 entry_refuses store index e values q = go (ltb (length store) (e.start + e.length)) q
   where
     go : (b : Bool) → pick b (some (answer 12 (index ∷ []))) (invalid (grammar true (text_of store e))) ≡ some (answer 0 values) → ⊥
-    go true q = let z : ◌≡◌ {A = ℕ} 0 1 = cc in omega arith
+    go true q = cc
     go false q = held_refuses (grammar true (text_of store e)) values q
 
 entries_refuse : (store : List ℕ) (index : ℕ) (es : List Entry) (values : List ℕ) → bad_entries store index es ≡ some (answer 0 values) → ⊥
-entries_refuse store index [] values q = let z : ◌≡◌ {A = ℕ} 0 1 = cc in omega arith
+entries_refuse store index [] values q = cc
 entries_refuse store index (e ∷ es) values q = go (bad_entry store index e) refl q (entries_refuse store (index + 1) es values)
   where
     go : (o : Option Answer) → bad_entry store index e ≡ o → first_of o (bad_entries store (index + 1) es) ≡ some (answer 0 values)
@@ -51,14 +50,14 @@ entries_refuse store index (e ∷ es) values q = go (bad_entry store index e) re
 -- an accepted text's answer has one value
 check-value : (wild : Bool) (passed : Option ℕ) (index : ℕ) (ts : List (List ℕ)) (values : List ℕ) → check wild passed index ts ≡ answer 0 values → (n : ℕ) × (values ≡ n ∷ [])
 check-value wild passed index [] values e = (index, cc)
-check-value wild (some at) index (t ∷ ts) values e = let z : ◌≡◌ {A = ℕ} 0 1 = cc in absurd (omega arith)
+check-value wild (some at) index (t ∷ ts) values e = absurd (cc)
 check-value wild none index (t ∷ ts) values e =
     go (eqb index 32) (bad_token wild index t) refl e (check-value wild (tail_at (is_tail t) index) (index + 1) ts values)
   where
     go : (b : Bool) (o : Option Answer) → bad_token wild index t ≡ o
         → pick b (answer 5 (33 ∷ [])) (unless o (check wild (tail_at (is_tail t) index) (index + 1) ts)) ≡ answer 0 values
         → (check wild (tail_at (is_tail t) index) (index + 1) ts ≡ answer 0 values → (n : ℕ) × (values ≡ n ∷ [])) → (n : ℕ) × (values ≡ n ∷ [])
-    go true o q e ih = let z : ◌≡◌ {A = ℕ} 0 1 = cc in absurd (omega arith)
+    go true o q e ih = absurd (cc)
     go false (some a) q e ih = absurd (token_refuses wild index t values (q ∙ ap some e))
     go false none q e ih = ih e
 
@@ -68,9 +67,9 @@ grammar-value wild bs values e = go (ltb 4096 (length bs)) (first_bad bs) (eqb (
   where
     go : (b : Bool) (o : Option ℕ) (c : Bool) → pick b (answer 1 []) (unless (not_utf8 o) (pick c (answer 3 []) (check wild none 0 (tokens bs)))) ≡ answer 0 values
         → (n : ℕ) × (values ≡ n ∷ [])
-    go true o c e = let z : ◌≡◌ {A = ℕ} 0 1 = cc in absurd (omega arith)
-    go false (some i) c e = let z : ◌≡◌ {A = ℕ} 0 1 = cc in absurd (omega arith)
-    go false none true e = let z : ◌≡◌ {A = ℕ} 0 1 = cc in absurd (omega arith)
+    go true o c e = absurd (cc)
+    go false (some i) c e = absurd (cc)
+    go false none true e = absurd (cc)
     go false none false e = check-value wild none 0 (tokens bs) values e
 
 -- entries that are not bad are accepted
@@ -79,8 +78,8 @@ entry-accepted store index e q = go (ltb (length store) (e.start + e.length)) (g
   where
     go : (b : Bool) (o : Answer) → grammar true (text_of store e) ≡ o → pick b (some (answer 12 (index ∷ []))) (invalid o) ≡ none
         → (n : ℕ) × (grammar true (text_of store e) ≡ answer 0 (n ∷ []))
-    go true o p q = let z : ◌≡◌ {A = ℕ} 0 1 = cc in absurd (omega arith)
-    go false (answer (suc k) values) p q = let z : ◌≡◌ {A = ℕ} 0 1 = cc in absurd (omega arith)
+    go true o p q = absurd (cc)
+    go false (answer (suc k) values) p q = absurd (cc)
     go false (answer zero values) p q = let v = grammar-value true (text_of store e) values p in (v.0, p ∙ ap (answer 0) v.1)
 
 entries-accepted : (store : List ℕ) (index : ℕ) (es : List Entry) → bad_entries store index es ≡ none → All Accepted (read_from store es)
@@ -90,7 +89,7 @@ entries-accepted store index (e ∷ es) q = go (bad_entry store index e) refl q 
     go : (o : Option Answer) → bad_entry store index e ≡ o → first_of o (bad_entries store (index + 1) es) ≡ none
         → (bad_entries store (index + 1) es ≡ none → All Accepted (read_from store es)) → All Accepted (read_from store (e ∷ es))
     go none p q ih = (entry-accepted store index e p, ih q)
-    go (some a) p q ih = let z : ◌≡◌ {A = ℕ} 0 1 = cc in absurd (omega arith)
+    go (some a) p q ih = absurd (cc)
 
 -- an accepted build's entries are accepted, and its worst case is at most 1,024
 build-accepted : (list : List Entry) (store : List ℕ) (room places g : ℕ) (values : List ℕ) → build_says list store room places g ≡ answer 0 values
@@ -103,11 +102,11 @@ build-accepted list store room places g values e =
         → pick a (answer 10 []) (unless o (pick b (answer 14 (needed store list ∷ [])) (pick c (answer 15 []) (pick d (answer 16 (worst_in store list ∷ 1024 ∷ []))
         (answer 0 (needed store list ∷ worst_in store list ∷ g ∷ [])))))) ≡ answer 0 values
         → All Accepted (read_from store list) × (worst_in store list ≤ 1024)
-    go true o p b c d q e = let z : ◌≡◌ {A = ℕ} 0 1 = cc in absurd (omega arith)
+    go true o p b c d q e = absurd (cc)
     go false (some r) p b c d q e = absurd (entries_refuse store 0 list values (p ∙ ap some e))
-    go false none p true c d q e = let z : ◌≡◌ {A = ℕ} 0 1 = cc in absurd (omega arith)
-    go false none p false true d q e = let z : ◌≡◌ {A = ℕ} 0 1 = cc in absurd (omega arith)
-    go false none p false false true q e = let z : ◌≡◌ {A = ℕ} 0 1 = cc in absurd (omega arith)
+    go false none p true c d q e = absurd (cc)
+    go false none p false true d q e = absurd (cc)
+    go false none p false false true q e = absurd (cc)
     go false none p false false false q e = (entries-accepted store 0 list p, ltb-false 1024 (worst_in store list) q)
 
 module _ (t : Table) (es : List TableEntry) (f : BuiltFrom t es) where

@@ -263,7 +263,7 @@ all_right_of s b (x ∷ xs) h r = (
 )
 
 -- a state is known by its numbers
-same_numbers : (s u : Snapshot) → snapshot_numbers s ≡ snapshot_numbers u → s ≡ u
+pub same_numbers : (s u : Snapshot) → snapshot_numbers s ≡ snapshot_numbers u → s ≡ u
 same_numbers s u e =
     ap (λ (l : List ℕ). record { nodes = get_or l 0 0; targets = get_or l 1 0; generation = record { 0 = get_or l 2 0 }; next = record { 0 = get_or l 3 0 } }) e
 
@@ -290,7 +290,7 @@ module _ (t : Table) (es : List TableEntry) (calls : List Call) (p : Premises t 
       go true e =
           let m = make_full t (root_of fnv es) (table-holds t es p.built) area (ltb-true (length area) (length_of t) e) in
           let q : answer 20 [] ≡ answer 0 (snapshot_numbers b.snapshot) = ap (λ (x : Made). x.says) (sym m ∙ o.snapshot_made) in
-          let z : ◌≡◌ {A = ℕ} 0 1 = cc in absurd (omega arith)
+          absurd (cc)
       go false e =
           let fits = ltb-false (length area) (length_of t) e in
           let m = sym (make-fits t (root_of fnv es) (table-holds t es p.built) area fits) ∙ o.snapshot_made in

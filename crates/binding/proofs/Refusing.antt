@@ -49,7 +49,7 @@ store_stays b t r = go (refused_table t b.words)
   where
     go : (o : Option Answer) → stamped (stored_by o b.snapshot b.words t).says ≡ refused r
         → ((stored_by o b.snapshot b.words t).snapshot ≡ b.snapshot) × ((stored_by o b.snapshot b.words t).area ≡ b.words)
-    go none q = let z : ◌≡◌ {A = ℕ} 0 1 = cc in absurd (omega arith)
+    go none q = absurd (cc)
     go (some x) q = (refl, refl)
 
 make_stays : (t : Table) (area : List ℕ) (n : ℕ) (values : List ℕ) → (make t area).says ≡ answer (suc n) values → (make t area).area ≡ area
@@ -85,11 +85,11 @@ match_leaves s area subject out =
     go (answer zero values) true (found list peak) = fits (ltb (length out) (length list)) list peak
 
 match_stays : (out : List ℕ) (o : Outcome) → MatchLeaves out o → (r : Answer) → shown o ≡ refused r → output_of o ≡ out
-match_stays out (outcome (answer zero values) after) l r q = let z : ◌≡◌ {A = ℕ} 0 1 = cc in absurd (omega arith)
+match_stays out (outcome (answer zero values) after) l r q = absurd (cc)
 match_stays out (outcome (answer (suc n) values) after) l r q = l
 
 home_stays : (out : List ℕ) (o : Outcome) → MatchLeaves out o → (r : Answer) → home_as (judge_match o) ≡ refused r → output_of o ≡ out
-home_stays out (outcome (answer zero values) after) l r q = let z : ◌≡◌ {A = ℕ} 0 1 = cc in absurd (omega arith)
+home_stays out (outcome (answer zero values) after) l r q = absurd (cc)
 home_stays out (outcome (answer (suc n) values) after) l r q = l
 
 match_writes : (out : List ℕ) (o : Outcome) → MatchLeaves out o → (list : List ℕ) (verdict : Resolution) (peak generation : ℕ) → shown o ≡ matched list verdict peak generation
@@ -97,7 +97,7 @@ match_writes : (out : List ℕ) (o : Outcome) → MatchLeaves out o → (list : 
 match_writes out (outcome (answer zero values) after) l list verdict peak generation q =
     let same : take (get_or values 0 0) after ≡ list = cc in
     l ∙ ap (λ (x : List ℕ). over x out) same
-match_writes out (outcome (answer (suc n) values) after) l list verdict peak generation q = let z : ◌≡◌ {A = ℕ} 0 1 = cc in absurd (omega arith)
+match_writes out (outcome (answer (suc n) values) after) l list verdict peak generation q = absurd (cc)
 
 -- ---- a resolve
 
@@ -122,7 +122,7 @@ resolve_stays b i r out (answer (suc n) values) l say never x q = (put_back b i 
 
 resolve-writes : (c : ResolveCache) (a : Area) (out : List ℕ) (r : Resolved) (said : Answer) → ResolveLeaves c a out r said → (list : List ℕ) (verdict : Resolution)
     → resolved_as (handed said r.area.kept r.out) ≡ resolved list verdict → (r.out ≡ out) ⊎ (r.out ≡ list ++ drop (length list) out)
-resolve-writes c a out r (answer (suc n) values) l list verdict q = let z : ◌≡◌ {A = ℕ} 0 1 = cc in absurd (omega arith)
+resolve-writes c a out r (answer (suc n) values) l list verdict q = absurd (cc)
 resolve-writes c a out r (answer zero values) (inl e) list verdict q = inl e
 resolve-writes c a out r (answer zero values) (inr e) list verdict q = inr (e ∙ ap (λ (x : List ℕ). over x out) (listed q))
   where
@@ -130,17 +130,17 @@ resolve-writes c a out r (answer zero values) (inr e) list verdict q = inr (e �
     listed q = cc
 
 resolved_refuses : (list : List ℕ) (x : Answer) → resolved_as (gives list) ≡ refused x → ⊥
-resolved_refuses list x q = let z : ◌≡◌ {A = ℕ} 0 1 = cc in omega arith
+resolved_refuses list x q = cc
 
 home_refuses : (list : List ℕ) (x : Answer) → home_as (judge_handed (gives list)) ≡ refused x → ⊥
-home_refuses list x q = let z : ◌≡◌ {A = ℕ} 0 1 = cc in omega arith
+home_refuses list x q = cc
 
 -- ---- the calls
 
 calls_stay : (b : Cabinet) (c : Call) → RefusedStays b c
 unfolding resolve_single_home resolve_single_home_cached
 calls_stay b (store t es) r q = let w = store_stays b t r q in (record { snapshot = w.0; words = w.1; caches = λ i. refl }, refl)
-calls_stay b (clearing i) r q = let z : ◌≡◌ {A = ℕ} 0 1 = cc in absurd (omega arith)
+calls_stay b (clearing i) r q = absurd (cc)
 calls_stay b (asking subject out) r q = (same-cabinet b, match_stays out (match_in b.snapshot b.words subject out) (match_leaves b.snapshot b.words subject out) r q)
 calls_stay b (asking_home subject out) r q = (same-cabinet b, home_stays out (match_in b.snapshot b.words subject out) (match_leaves b.snapshot b.words subject out) r q)
 calls_stay b (resolving i subject out) r q =

@@ -1,6 +1,5 @@
 -- Tokens in play: no literal of a standing table shares its hash with a different token of a subject.
 use Prim.Native.Nat.{ℕ, zero, suc, ◌+◌}
-use native.Mathlib.Omega.{arith}
 use mathlib.Core.Path.{◌≡◌, refl, sym, ap, subst}
 use mathlib.Core.Bool.{Bool, true, false}
 use mathlib.Core.List.{List, [], ◌∷◌, ◌++◌, Memᴰ}
@@ -54,36 +53,36 @@ module _ (pool : List (List ℕ)) (apart : HashedApart pool) where
 
 -- every token of an accepted subject is literal
 literal_token : (index : ℕ) (t : List ℕ) → bad_token false index t ≡ none → or (is_star t) (is_tail t) ≡ false
-literal_token index [] e = let z : ◌≡◌ {A = ℕ} 0 1 = cc in absurd (omega arith)
+literal_token index [] e = absurd (cc)
 literal_token index (b ∷ bs) e = go (or (is_star (b ∷ bs)) (is_tail (b ∷ bs))) e
   where
     go : (w : Bool) → pick w (some (answer 7 (b ∷ index ∷ []))) (bad_chars index (b ∷ bs)) ≡ none → w ≡ false
-    go true e = let z : ◌≡◌ {A = ℕ} 0 1 = cc in absurd (omega arith)
+    go true e = absurd (cc)
     go false e = refl
 
 -- what refuses a token is never number 0
 chars_refuse : (index : ℕ) (bs values : List ℕ) → bad_chars index bs ≡ some (answer 0 values) → ⊥
-chars_refuse index [] values e = let z : ◌≡◌ {A = ℕ} 0 1 = cc in omega arith
+chars_refuse index [] values e = cc
 chars_refuse index (b ∷ bs) values e = go (or (ltb b 0x20) (eqb b 0x7f)) (or (eqb b 0x2a) (eqb b 0x3e)) e (chars_refuse index bs values)
   where
     go : (c d : Bool) → first_of (pick c (some (answer 8 (b ∷ index ∷ []))) (pick d (some (answer 9 (b ∷ index ∷ []))) none)) (bad_chars index bs) ≡ some (answer 0 values)
         → (bad_chars index bs ≡ some (answer 0 values) → ⊥) → ⊥
-    go true d e ih = let z : ◌≡◌ {A = ℕ} 0 1 = cc in omega arith
-    go false true e ih = let z : ◌≡◌ {A = ℕ} 0 1 = cc in omega arith
+    go true d e ih = cc
+    go false true e ih = cc
     go false false e ih = ih e
 
 pub token_refuses : (wild : Bool) (index : ℕ) (t values : List ℕ) → bad_token wild index t ≡ some (answer 0 values) → ⊥
-token_refuses wild index [] values e = let z : ◌≡◌ {A = ℕ} 0 1 = cc in omega arith
+token_refuses wild index [] values e = cc
 token_refuses wild index (b ∷ bs) values e = go (or (is_star (b ∷ bs)) (is_tail (b ∷ bs))) wild e
   where
     go : (w v : Bool) → pick w (pick v none (some (answer 7 (b ∷ index ∷ [])))) (bad_chars index (b ∷ bs)) ≡ some (answer 0 values) → ⊥
-    go true true e = let z : ◌≡◌ {A = ℕ} 0 1 = cc in omega arith
-    go true false e = let z : ◌≡◌ {A = ℕ} 0 1 = cc in omega arith
+    go true true e = cc
+    go true false e = cc
     go false v e = chars_refuse index (b ∷ bs) values e
 
 check-literals : (passed : Option ℕ) (index : ℕ) (values : List ℕ) (ts : List (List ℕ)) → check false passed index ts ≡ answer 0 values → literals ts ≡ ts
 check-literals passed index values [] e = refl
-check-literals (some at) index values (t ∷ ts) e = let z : ◌≡◌ {A = ℕ} 0 1 = cc in absurd (omega arith)
+check-literals (some at) index values (t ∷ ts) e = absurd (cc)
 check-literals none index values (t ∷ ts) e =
     go (eqb index 32) (bad_token false index t) refl e (check-literals (tail_at (is_tail t) index) (index + 1) values ts)
   where
@@ -91,9 +90,9 @@ check-literals none index values (t ∷ ts) e =
         → pick b (answer 5 (33 ∷ [])) (unless o (check false (tail_at (is_tail t) index) (index + 1) ts)) ≡ answer 0 values
         → (check false (tail_at (is_tail t) index) (index + 1) ts ≡ answer 0 values → literals ts ≡ ts)
         → literals (t ∷ ts) ≡ t ∷ ts
-    go true o q e ih = let z : ◌≡◌ {A = ℕ} 0 1 = cc in absurd (omega arith)
+    go true o q e ih = absurd (cc)
     go false (some (answer zero vs)) q e ih = absurd (token_refuses false index t vs q)
-    go false (some (answer (suc k) vs)) q e ih = let z : ◌≡◌ {A = ℕ} 0 1 = cc in absurd (omega arith)
+    go false (some (answer (suc k) vs)) q e ih = absurd (cc)
     go false none q e ih = rw (literal_token index t q) (ap (λ l. t ∷ l) (ih e))
 
 pub subject-literals : (bs values : List ℕ) → grammar false bs ≡ answer 0 values → literals (tokens bs) ≡ tokens bs
@@ -103,7 +102,7 @@ subject-literals bs values e = go (ltb 4096 (length bs)) (first_bad bs) (eqb (le
     go : (b : Bool) (o : Option ℕ) (c : Bool)
         → pick b (answer 1 []) (unless (not_utf8 o) (pick c (answer 3 []) (check false none 0 (tokens bs)))) ≡ answer 0 values
         → literals (tokens bs) ≡ tokens bs
-    go true o c e = let z : ◌≡◌ {A = ℕ} 0 1 = cc in absurd (omega arith)
-    go false (some i) c e = let z : ◌≡◌ {A = ℕ} 0 1 = cc in absurd (omega arith)
-    go false none true e = let z : ◌≡◌ {A = ℕ} 0 1 = cc in absurd (omega arith)
+    go true o c e = absurd (cc)
+    go false (some i) c e = absurd (cc)
+    go false none true e = absurd (cc)
     go false none false e = check-literals none 0 values (tokens bs) e

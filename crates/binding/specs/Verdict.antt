@@ -1,5 +1,5 @@
 -- The verdict on a list of targets, and the two calls that feed it.
-use Rattle.std.specs.Prelude.{ℕ, zero, suc, Bool, true, false, List, [], ◌∷◌, length, take, get_or}
+use Rattle.std.specs.Prelude.{ℕ, zero, suc, Bool, true, false, List, [], ◌∷◌, length, take, get_or, Option, Some, None}
 use Rattle.subject_rules.specs.Answers.{Answer, answer}
 use Rattle.subject_rules.specs.Outputs.{Outcome, outcome}
 use Rattle.sublist_snapshot.specs.declared.Snapshot.{Snapshot}
@@ -9,8 +9,6 @@ use Rattle.resolve_cache_rules.specs.Area.{Area}
 use Rattle.resolve_cache_rules.specs.Cache.{Handed, turned_back, gives, handed, Resolved, resolve}
 use Rattle.binding.specs.declared.Resolution.{Resolution}
 use Rattle.binding.specs.declared.Resolution.TheVariants.{Routed, NoStream, Ambiguous}
-use Rattle.binding.specs.declared.RoutedTarget.{RoutedTarget}
-use Rattle.binding.specs.declared.RoutedTarget.TheVariants.{Target, Nothing}
 
 -- `single_home`: empty list NoStream, one target Routed with it, else Ambiguous with the length
 abbrev pub single_home : List ℕ → Resolution
@@ -19,10 +17,10 @@ single_home (x ∷ []) = Routed x
 single_home (x ∷ (y ∷ zs)) = Ambiguous (length (x ∷ (y ∷ zs)))
 
 -- `routed`: the target, if there is one home
-abbrev pub routed : Resolution → RoutedTarget
-routed (Routed target) = Target target
-routed NoStream = Nothing
-routed (Ambiguous matched) = Nothing
+abbrev pub routed : Resolution → Option ℕ
+routed (Routed target) = Some target
+routed NoStream = None
+routed (Ambiguous matched) = None
 
 abbrev pub is_routed : Resolution → Bool
 is_routed (Routed target) = true

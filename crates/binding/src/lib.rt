@@ -9,10 +9,10 @@ ghost use Rattle.binding.specs.Verdict.{single_home, routed, is_routed, judge_ha
 ghost use Rattle.binding.specs.Verdict.{resolve_single_home_cached};
 ghost use Rattle.binding.specs.Answers.{cached_answer, homed, cached_homed};
 
-use resolve_cache::ResolveAnswer;
+use resolve_cache::ResolveError;
 use resolve_cache_rules::ResolveCache;
-use subject::SubjectError;
-use sublist_snapshot::{Generation, Snapshot, SnapshotMatch};
+use sublist_snapshot::{Generation, Snapshot};
+use sublist_walk::MatchError;
 
 // Exactly one target, none, or several with their number.
 #[derive(Clone, Copy)]
@@ -22,53 +22,29 @@ pub enum Resolution {
     Ambiguous { matched: usize },
 }
 
-// The one target of a resolution, if it has one.
+// A verdict by a match, with the largest frontier and the standing table's generation.
 #[derive(Clone, Copy)]
-pub enum RoutedTarget {
-    Target(u32),
-    Nothing,
-}
-
-// A verdict by a match, with the largest frontier and the standing table's generation, or why it is refused.
-#[derive(Clone, Copy)]
-pub enum SingleHome {
-    Resolved {
-        resolution: Resolution,
-        peak: usize,
-        generation: Generation,
-    },
-    Invalid(SubjectError),
-    Damaged,
-    OutShort(usize),
-}
-
-// A verdict by a resolve, or why it is refused.
-#[derive(Clone, Copy)]
-pub enum CachedSingleHome {
-    Resolved(Resolution),
-    Invalid(SubjectError),
-    CacheShort,
-    BadSlot,
-    Damaged,
-    OutShort(usize),
+pub struct SingleHome {
+    pub resolution: Resolution,
+    pub peak: usize,
+    pub generation: Generation,
 }
 
 // A verdict by a resolve, and the cache afterwards.
 #[derive(Clone, Copy)]
 pub struct CachedResolution {
     pub cache: ResolveCache,
-    pub answer: CachedSingleHome,
+    pub answer: Result<Resolution, ResolveError>,
 }
 
 impl Resolution {
     // The target, if there is exactly one.
-    pub fn routed(self) -> RoutedTarget
+    pub fn routed(self) -> Option<u32>
         ensures { result ≡ routed self }
     {
         match self {
-            Resolution::Routed(target) => RoutedTarget::Target(target),
-            Resolution::NoStream => RoutedTarget::Nothing,
-            Resolution::Ambiguous { matched: _ } => RoutedTarget::Nothing,
+            Resolution::Routed(target) => Some(target),
+            _ => None,
         }
     }
 
@@ -76,11 +52,7 @@ impl Resolution {
     pub fn is_routed(self) -> bool
         ensures { result ≡ is_routed self }
     {
-        match self {
-            Resolution::Routed(_) => true,
-            Resolution::NoStream => false,
-            Resolution::Ambiguous { matched: _ } => false,
-        }
+        matches!(self, Resolution::Routed(_))
     }
 }
 
@@ -88,14 +60,13 @@ impl Resolution {
 pub fn single_home(matched: &[u32]) -> Resolution
     ensures { result ≡ single_home matched.now }
 {
-    let count = matched.len();
-    if count == 0 {
-        return Resolution::NoStream;
+    match matched {
+        [] => Resolution::NoStream,
+        [target] => Resolution::Routed(*target),
+        _ => Resolution::Ambiguous {
+            matched: matched.len(),
+        },
     }
-    if count == 1 {
-        return Resolution::Routed(matched[0]);
-    }
-    Resolution::Ambiguous { matched: count }
 }
 
 // The verdict on the list that a match through the snapshot writes over the first places of the output: 1 to 9, then
@@ -105,40 +76,16 @@ pub fn resolve_single_home(
     area: &[u32],
     subject: &[u8],
     out: &mut [u32],
-) -> SingleHome
+) -> Result<SingleHome, MatchError>
     ensures { homed result out.new
         ≡ resolve_single_home snapshot area.now subject.now out.old }
 {
-    match snapshot.match_into(area, subject, out) {
-        SnapshotMatch::Invalid(e) => SingleHome::Invalid(e),
-        SnapshotMatch::Damaged => SingleHome::Damaged,
-        SnapshotMatch::OutShort(needed) => SingleHome::OutShort(needed),
-        SnapshotMatch::Listed {
-            count,
-            peak,
-            generation,
-        } => SingleHome::Resolved {
-            resolution: single_home(&out[..count]),
-            peak,
-            generation,
-        },
-    }
-}
-
-// The verdict on the list that a resolve hands back, or its refusal.
-fn judge<'a>(answer: ResolveAnswer, kept: &'a [u32], out: &'a [u32]) -> CachedSingleHome
-    ensures { cached_answer result ≡ judge_handed (handed (resolve_answer answer) kept.now out.now) }
-{
-    let list = answer.list(kept, out);
-    match answer {
-        ResolveAnswer::Kept { from: _, count: _ } => CachedSingleHome::Resolved(single_home(list)),
-        ResolveAnswer::Walked { count: _ } => CachedSingleHome::Resolved(single_home(list)),
-        ResolveAnswer::Invalid(e) => CachedSingleHome::Invalid(e),
-        ResolveAnswer::CacheShort => CachedSingleHome::CacheShort,
-        ResolveAnswer::BadSlot => CachedSingleHome::BadSlot,
-        ResolveAnswer::Damaged => CachedSingleHome::Damaged,
-        ResolveAnswer::OutShort(needed) => CachedSingleHome::OutShort(needed),
-    }
+    let found = snapshot.match_into(area, subject, out)?;
+    Ok(SingleHome {
+        resolution: single_home(&out[..found.count]),
+        peak: found.peak,
+        generation: found.generation,
+    })
 }
 
 // The verdict on the list that a resolve hands back: 1 to 9, then 17, 18, 19 and 21.
@@ -157,10 +104,9 @@ pub fn resolve_single_home_cached(
         snapshot area.now subject.now out.old }
 {
     let resolved = resolve_cache::resolve(cache, stamps, keys, kept, snapshot, area, subject, out);
-    let cache = resolved.cache;
-    let answer = resolved.answer;
+    let list = resolve_cache::list(resolved.answer, kept, out);
     CachedResolution {
-        cache,
-        answer: judge(answer, kept, out),
+        cache: resolved.cache,
+        answer: resolved.answer.map(|_| single_home(list)),
     }
 }

@@ -10,7 +10,6 @@ use Rattle.sublist_original.specs.Original.{Ok, Std, Sublist, build}
 use Rattle.sublist_original.specs.Entries.{builder_of}
 use Rattle.sublist_snapshot.specs.Snapshot.{Table, copied, first}
 use Rattle.sublist_snapshot.proofs.Copies.{copied-holds}
-use Rattle.binding.specs.Calls.{store}
 use Rattle.binding.specs.Built.{BuiltFrom}
 use Rattle.binding.proofs.Builds.{built_accepts, built_bound}
 use Rattle.binding.proofs.Tables.{table-holds}

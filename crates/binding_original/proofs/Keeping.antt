@@ -5,7 +5,6 @@
 --   left_trusty        Trusty → and what is left is Trusty again
 --   left_on            what is left is on the table's generation
 use Prim.Native.Nat.{ℕ}
-use native.Mathlib.Omega.{arith}
 use mathlib.Core.Path.{◌≡◌, refl, sym, ◌∙◌, ap}
 use mathlib.Core.Bool.{Bool, true, false}
 use mathlib.Core.List.{List, [], ◌∷◌, ◌++◌}
@@ -13,26 +12,21 @@ use mathlib.Core.Option.{Option, none, some}
 use lib.Dec.{eqb, ltb}
 use lib.ListN.{length}
 use borrow.Author.Tests.{eqb-true}
-use Rattle.subject_rules.specs.Choice.{or}
 use Rattle.subject_rules.specs.Original.{when◌then◌else◌, equal}
 use Rattle.sublist_tree.specs.Table.{TableEntry}
 use Rattle.sublist_original.specs.Original.{Ok, Std}
 use Rattle.binding_original.specs.Original.{SublistSnapshot, CacheEntry, HashMap, Iter, ResolveCache, Each, get, refresh, remove, guarded, without, evict_if_full, hit, miss, looked_up, resolve_with, wrapping_add}
 use Rattle.binding_original.proofs.Stamping.{walked_by, Walks}
 
-pub or_false : (x y : Bool) → or x y ≡ false → (x ≡ false) × (y ≡ false)
-or_false true y e = (e, cc)
-or_false false y e = (refl, e)
-
 pub equal-sound : (xs ys : List ℕ) → equal xs ys ≡ true → xs ≡ ys
 equal-sound [] [] e = refl
-equal-sound [] (y ∷ ys) e = let z : ◌≡◌ {A = ℕ} 0 1 = cc in absurd (omega arith)
-equal-sound (x ∷ xs) [] e = let z : ◌≡◌ {A = ℕ} 0 1 = cc in absurd (omega arith)
+equal-sound [] (y ∷ ys) e = absurd (cc)
+equal-sound (x ∷ xs) [] e = absurd (cc)
 equal-sound (x ∷ xs) (y ∷ ys) e = go (eqb x y) refl e (equal-sound xs ys)
   where
     go : (b : Bool) → eqb x y ≡ b → (when b then equal xs ys else false) ≡ true → (equal xs ys ≡ true → xs ≡ ys) → x ∷ xs ≡ y ∷ ys
     go true p e ih = rw (eqb-true x y p, ih e)
-    go false p e ih = let z : ◌≡◌ {A = ℕ} 0 1 = cc in absurd (omega arith)
+    go false p e ih = absurd (cc)
 
 -- the entries under a key are what a function gives for it
 module _ (due : List ℕ → List ℕ) where
@@ -40,7 +34,7 @@ module _ (due : List ℕ → List ℕ) where
   Kept x = x.1.targets ≡ due x.0
 
   get-kept : (entries : HashMap ℕ) (key : List ℕ) (e : CacheEntry ℕ) → Each Kept entries → get entries key ≡ some e → e.targets ≡ due key
-  get-kept [] key e k q = let z : ◌≡◌ {A = ℕ} 0 1 = cc in absurd (omega arith)
+  get-kept [] key e k q = absurd (cc)
   get-kept ((k, d) ∷ rest) key e a q = go (equal k key) refl q (get-kept rest key e a.1)
     where
       go : (b : Bool) → equal k key ≡ b → (when b then some d else get rest key) ≡ some e → (get rest key ≡ some e → e.targets ≡ due key) → e.targets ≡ due key

@@ -1,6 +1,5 @@
 -- Entries of a HashMap: what get, refresh, remove and insert do to each, and to their number.
 use Prim.Native.Nat.{ℕ, suc}
-use native.Mathlib.Omega.{arith}
 use mathlib.Core.Path.{◌≡◌, refl, sym, ◌∙◌, ap, subst}
 use mathlib.Core.Logic.{◌⊎◌, inl, inr}
 use mathlib.Core.Bool.{Bool, true, false}
@@ -27,7 +26,7 @@ equal_other xs ys n = go (equal xs ys) refl
     go false e = e
 
 unequal : (xs ys : List ℕ) → equal xs ys ≡ false → xs ≡ ys → ⊥
-unequal xs ys e s = let t : equal xs ys ≡ true = rw s (equal_whole ys) in let z : ◌≡◌ {A = ℕ} 0 1 = cc in omega arith
+unequal xs ys e s = let t : equal xs ys ≡ true = rw s (equal_whole ys) in cc
 
 pub each_at : (P : Pair → Type 0) (es : HashMap ℕ) (x : Pair) → Each P es → Memᴰ x es → P x
 each_at P [] x a x4 = elim x4 [ ]
@@ -57,11 +56,11 @@ get_none [] key e = tt
 get_none ((k, d) ∷ es) key e = go (equal k key) refl e (get_none es key)
   where
     go : (b : Bool) → equal k key ≡ b → (when b then some d else get es key) ≡ none → (get es key ≡ none → Absent es key) → Absent ((k, d) ∷ es) key
-    go true p e ih = let z : ◌≡◌ {A = ℕ} 0 1 = cc in absurd (omega arith)
+    go true p e ih = absurd (cc)
     go false p e ih = (unequal k key p, ih e)
 
 pub get_some : (es : HashMap ℕ) (key : List ℕ) (e : CacheEntry ℕ) → get es key ≡ some e → Memᴰ (key, e) es
-get_some [] key e q = let z : ◌≡◌ {A = ℕ} 0 1 = cc in absurd (omega arith)
+get_some [] key e q = absurd (cc)
 get_some ((k, d) ∷ es) key e q = go (equal k key) refl q (get_some es key e)
   where
     go : (b : Bool) → equal k key ≡ b → (when b then some d else get es key) ≡ some e → (get es key ≡ some e → Memᴰ (key, e) es) → Memᴰ (key, e) ((k, d) ∷ es)
@@ -162,10 +161,6 @@ remove-length ((k, e) ∷ es) x o (Memᴰ.tail m) =
     ap (λ l. suc (length l)) t ∙ ap suc (remove-length es x o.1 m)
 
 -- ---- push
-
-pub push-length : (es : HashMap ℕ) (x : Pair) → length (es ++ (x ∷ [])) ≡ suc (length es)
-push-length [] x = refl
-push-length (y ∷ es) x = ap suc (push-length es x)
 
 pub push_old : (es : HashMap ℕ) (x y : Pair) → Memᴰ y es → Memᴰ y (es ++ (x ∷ []))
 push_old [] x y x3 = elim x3 [ ]

@@ -64,7 +64,7 @@ fresh_zero n c a e = go (short (max 1 n) a) e
   where
     go : (b : Bool) → pick b (answer 17 []) (answer 0 (cache_numbers (fresh (max 1 n)))) ≡ answer 0 (cache_numbers c)
         → (0 ≡ c.used) × (0 ≡ c.generation.0) × (0 ≡ c.tick.0) × (0 ≡ c.walks)
-    go true e = let z : ◌≡◌ {A = ℕ} 0 1 = cc in absurd (omega arith)
+    go true e = absurd (cc)
     go false e =
         let r : cache_numbers (fresh (max 1 n)) ≡ cache_numbers c = cc in
         (ap (λ (l : List ℕ). get_or l 1 0) r, ap (λ (l : List ℕ). get_or l 2 0) r, ap (λ (l : List ℕ). get_or l 3 0) r, ap (λ (l : List ℕ). get_or l 4 0) r)

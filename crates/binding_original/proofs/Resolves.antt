@@ -28,11 +28,12 @@ use Rattle.resolve_cache_rules.proofs.Faithful.{unless_text, fitting}
 use Rattle.binding.specs.Verdict.{single_home, judge_handed, resolve_single_home_cached}
 use Rattle.binding.specs.Calls as ours
 use Rattle.binding.specs.Calls.{resolving, resolving_home, Kept, replaced, resolved_as, home_as, resolve_in}
+use Rattle.resolve_cache_rules.proofs.Slots.{or_false}
 use Rattle.binding_original.specs.Original.{Iter, ResolveCache, single-home, guarded, get, resolve_with}
 use Rattle.binding_original.specs.Calls.{SnapshotInArea, Yard, cabinet_of, with_cabinet, World, with_cache, resolves, homes_cached, Told, resolved, home, parsed, told, added, refusing, Compared}
 use Rattle.binding_original.specs.Caches.{Seen, uncacheable, spoils, stamps}
 use Rattle.binding_original.proofs.Stamping.{walked_by}
-use Rattle.binding_original.proofs.Keeping.{or_false, list_of, left_of, resolve-gives}
+use Rattle.binding_original.proofs.Keeping.{list_of, left_of, resolve-gives}
 use Rattle.binding_original.proofs.OurCache.{slot_of, listed, left_by, left_if, resolve-ends}
 use Rattle.binding_original.proofs.SameResolve.{Sound, Right, same-list, left-sound, left-right}
 use Rattle.binding_original.proofs.Texts.{verdict_same, reply_of, compared_handed}

@@ -14,6 +14,7 @@ use mathlib.Core.Option.{Option, none, some}
 use lib.Dec.{eqb, ltb}
 use lib.ListN.{length}
 use borrow.Author.Tests.{eqb-true, eqb-false, ltb-true, ltb-false}
+use Rattle.std.proofs.lemmas.List.{length_push}
 use Rattle.subject_rules.specs.Choice.{pick}
 use Rattle.subject_rules.specs.Original.{when◌then◌else◌, equal}
 use Rattle.sublist_snapshot.specs.Snapshot.{wrap}
@@ -26,7 +27,7 @@ use Rattle.binding_original.specs.Original.{CacheEntry, HashMap, Iter, wrapping_
 use Rattle.binding_original.specs.Caches.{row}
 use Rattle.binding_original.proofs.Near.{Near}
 use Rattle.binding_original.proofs.OurCache.{Keeps, Anything}
-use Rattle.binding_original.proofs.Maps.{equal_whole, equal_other, each_at, Once, absent_of, upd, refresh-length, refresh_to, refresh_from, refresh_once, remove_absent, remove_from, remove_to, remove_once, remove-length, push-length, push_old, push-new, push_from, push_once}
+use Rattle.binding_original.proofs.Maps.{equal_whole, equal_other, each_at, Once, absent_of, upd, refresh-length, refresh_to, refresh_from, refresh_once, remove_absent, remove_from, remove_to, remove_once, remove-length, push_old, push-new, push_from, push_once}
 
 abbrev Pair : Type 0
 Pair = List ℕ × CacheEntry ℕ
@@ -181,7 +182,7 @@ module _ (m : ℕ) (e : ResolveCache) (a : Area) (o : original.ResolveCache ℕ)
             generation = n.same.generation;
             tick = theirs;
             walks = ap (λ k. wrapping_add k 1) n.same.walks;
-            used = push-length es (subject, entry) ∙ many;
+            used = omega (arith, length_push es (subject, entry), many);
             kept = λ j k. in_left j k (slot j k);
             only = λ x q. out-left x (push_from es (subject, entry) x q);
           };
@@ -278,6 +279,6 @@ module _ (m : ℕ) (e : ResolveCache) (a : Area) (o : original.ResolveCache ℕ)
         go : (b : Bool) → ltb e.used e.capacity ≡ b → (d : Bool) → d ≡ ltb e.used e.capacity
             → Left (when d then o.entries else without (iter.min_by_last_used o.entries) o.entries) b
         go true q true z = room-left (ltb-true e.used e.capacity q)
-        go true q false z = let c : ◌≡◌ {A = ℕ} 0 1 = cc in absurd (omega arith)
-        go false q true z = let c : ◌≡◌ {A = ℕ} 0 1 = cc in absurd (omega arith)
+        go true q false z = absurd (cc)
+        go false q true z = absurd (cc)
         go false q false z = none_left iter (ltb-false e.used e.capacity q)

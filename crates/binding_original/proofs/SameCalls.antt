@@ -9,7 +9,7 @@ use mathlib.Core.Path.{◌≡◌, refl, sym, ◌∙◌, ap, subst}
 use mathlib.Core.Bool.{Bool, true, false}
 use mathlib.Core.List.{List, [], ◌∷◌, map}
 use lib.Dec.{ltb}
-use lib.ListN.{length, get_or}
+use lib.ListN.{length}
 use borrow.Author.Tests.{ltb-true, ltb-false}
 use Rattle.subject_rules.specs.Choice.{pick}
 use Rattle.subject_rules.specs.Fnv.{fnv}
@@ -17,13 +17,13 @@ use Rattle.subject_rules.specs.Answers.{answer}
 use Rattle.sublist_tree.specs.Lists.{All}
 use Rattle.sublist_tree.specs.Table.{TableEntry, root_of}
 use Rattle.sublist_original.specs.Original.{Outcome, Std, Sublist}
-use Rattle.sublist_snapshot.specs.declared.Snapshot.{Snapshot}
 use Rattle.sublist_snapshot.specs.Snapshot.{Table, length_of, copied, first, snapshot_numbers, Made, make}
 use Rattle.sublist_snapshot.proofs.Copies.{make_full, make-fits}
 use Rattle.binding.specs.Calls as ours
 use Rattle.binding.specs.Calls.{Call, store, clearing, asking, resolving, asking_home, resolving_home}
 use Rattle.binding.specs.Demand.{Opened, Lent}
 use Rattle.binding.specs.Built.{BuiltFrom}
+use Rattle.binding.proofs.Interleaving.{same_numbers}
 use Rattle.binding.proofs.Tables.{table-holds}
 use Rattle.binding_original.specs.Original as original
 use Rattle.binding_original.specs.Original.{Iter, ResolveCache}
@@ -81,11 +81,6 @@ module _ (std : Std) (iter : Iter ℕ) where
 
   -- ---- fresh on both sides
 
-  -- a state is known by its numbers
-  same_numbers : (s u : Snapshot) → snapshot_numbers s ≡ snapshot_numbers u → s ≡ u
-  same_numbers s u e =
-      ap (λ (l : List ℕ). record { nodes = get_or l 0 0; targets = get_or l 1 0; generation = record { 0 = get_or l 2 0 }; next = record { 0 = get_or l 3 0 } }) e
-
   -- a snapshot of ours is made of a table, one of theirs of a table of the same entries, built as 0
   module _ (t : Table) (es : List TableEntry) (built : BuiltFrom t es) (area : List ℕ) (table : Sublist ℕ) (few : length es ≤ 2048) (made : FirstBuilt std es table) where
     made_both : (s : SnapshotInArea) → make t area ≡ record { says = answer 0 (snapshot_numbers s.snapshot); area = s.words } → Both std es s (original.new table)
@@ -95,7 +90,7 @@ module _ (std : Std) (iter : Iter ℕ) where
         go true e =
             let m = make_full t (root_of fnv es) (table-holds t es built) area (ltb-true (length area) (length_of t) e) in
             let q : answer 20 [] ≡ answer 0 (snapshot_numbers s.snapshot) = ap (λ (x : Made). x.says) (sym m ∙ ours) in
-            let z : ◌≡◌ {A = ℕ} 0 1 = cc in absurd (omega arith)
+            absurd (cc)
         go false e =
             let m = sym (make-fits t (root_of fnv es) (table-holds t es built) area (ltb-false (length area) (length_of t) e)) ∙ ours in
             let q : answer 0 (snapshot_numbers (first t)) ≡ answer 0 (snapshot_numbers s.snapshot) = ap (λ (x : Made). x.says) m in
@@ -120,7 +115,7 @@ module _ (std : Std) (iter : Iter ℕ) where
     }
       where
         none : false ≡ true → ⊥
-        none e = let z : ◌≡◌ {A = ℕ} 0 1 = cc in omega arith
+        none e = cc
 
     -- whatever the list of calls
     pub calls_same : (calls : List (NamedCall × Asked)) → All Lent (firsts calls) → All (SameCall std) calls → length calls < 2 ^ 64 → EachSame std iter unseen y w calls

@@ -22,13 +22,13 @@ use Rattle.sublist_snapshot.specs.declared.Generation.{Generation}
 use Rattle.resolve_cache_rules.specs.declared.ResolveCache.{ResolveCache}
 use Rattle.resolve_cache_rules.specs.Area.{Area, keep}
 use Rattle.resolve_cache_rules.specs.Cache.{cache_numbers, with_capacity, emptied, clear, adopt, ticked, walked, grown, place}
-use Rattle.resolve_cache_rules.proofs.Slots.{find-sound, find_none}
+use Rattle.resolve_cache_rules.proofs.Slots.{or_false, find-sound, find_none}
 use Rattle.resolve_cache_rules.proofs.Faithful.{fresh_faithful}
 use Rattle.binding.specs.Calls.{Kept}
 use Rattle.binding_original.specs.Original as original
 use Rattle.binding_original.specs.Original.{CacheEntry, Iter, guarded, get, miss}
 use Rattle.binding_original.specs.Caches.{row, uncacheable}
-use Rattle.binding_original.proofs.Keeping.{Kept as Trusted, or_false, list_of, left_of, Trusty, trusty_list, left_trusty, left_on}
+use Rattle.binding_original.proofs.Keeping.{Kept as Trusted, list_of, left_of, Trusty, trusty_list, left_trusty, left_on}
 use Rattle.binding_original.proofs.Maps.{each_at, get_none, get_some}
 use Rattle.binding_original.proofs.OurCache.{Keeps, Anything, emptied_keeps, adopted_keeps, adopted_generation, slot_of, listed, left_by, left_keeps, left-generation}
 use Rattle.binding_original.proofs.Near.{Near, near_later, emptied_near, cleared_near, fresh_zero, fresh_near}
@@ -180,7 +180,7 @@ module _ (spoiled mixed : Bool) (stood : List ℕ) (due : List ℕ → List ℕ)
         go : (b : Bool) → spoiled ≡ b → (d : Bool) → mixed ≡ d → not (and b d) ≡ true → listed e a list (slot_of e a subject) ≡ list_of list (get on.entries subject)
         go false p d z q = near_list (slot_of e a subject) (get on.entries subject) (both p)
         go true p false z q = right-list z ∙ sym (trusty_list due g.0 o (right z).theirs subject)
-        go true p true y q = let z : ◌≡◌ {A = ℕ} 0 1 = cc in absurd (omega arith)
+        go true p true y q = absurd (cc)
 
     -- what a resolve leaves on both sides
     module _ (filled : 1 ≤ length subject) (iter : Iter ℕ) (few : suc m < 2 ^ 64) where
@@ -197,8 +197,8 @@ module _ (spoiled mixed : Bool) (stood : List ℕ) (due : List ℕ → List ℕ)
               → Near (suc m) (let x : Kept = pick (not (or b d)) (record { cache = grown e; area = keep e.capacity a (place e a) subject list (ticked e).0 }) (record { cache = walked e; area = a }) in x).cache
               (let x : Kept = pick (not (or b d)) (record { cache = grown e; area = keep e.capacity a (place e a) subject list (ticked e).0 }) (record { cache = walked e; area = a }) in x).area
               (miss iter on subject list)
-          missed true d p r k q = let z : ◌≡◌ {A = ℕ} 0 1 = cc in absurd (omega arith)
-          missed false true p r k q = let z : ◌≡◌ {A = ℕ} 0 1 = cc in absurd (omega arith)
+          missed true d p r k q = absurd (cc)
+          missed false true p r k q = absurd (cc)
           missed false false p r k q =
               miss_near m e a on fit_on (near_on clean) few subject list filled (ltb-false 256 (length subject) p) (ltb-false 16 (length list) r) k iter
 
@@ -223,7 +223,7 @@ module _ (spoiled mixed : Bool) (stood : List ℕ) (due : List ℕ → List ℕ)
       }
         where
           among_both : (h : ℕ) → h ≡ g.0 → among h stood ≡ false → ⊥
-          among_both h q f = let same : among h stood ≡ true = ap (λ n. among n stood) q ∙ stands in let z : ◌≡◌ {A = ℕ} 0 1 = cc in omega arith
+          among_both h q f = let same : among h stood ≡ true = ap (λ n. among n stood) q ∙ stands in cc
 
       -- `also` and h are of any table that stands
       pub left-right : (also : List ℕ → List ℕ) (h : ℕ) → mixed ≡ false → (h ≡ g.0 → also ≡ due) → Right also h left their_left

@@ -96,12 +96,12 @@ alike j = (through j, resolves 0 j (bytes "a"))
 
 -- their answer is the list that ours has with its verdict
 told-list : (list : List ℕ) (verdict : Resolution) (more : List ℕ) (x : Told) → resolved list verdict ≡ theirs.told more x → x ≡ theirs.resolved list
-told-list list verdict more (theirs.refused e) q = let z : ◌≡◌ {A = ℕ} 0 1 = cc in absurd (omega arith)
-told-list list verdict more (theirs.storing g) q = let z : ◌≡◌ {A = ℕ} 0 1 = cc in absurd (omega arith)
-told-list list verdict more theirs.cleared q = let z : ◌≡◌ {A = ℕ} 0 1 = cc in absurd (omega arith)
-told-list list verdict more (theirs.matched l g) q = let z : ◌≡◌ {A = ℕ} 0 1 = cc in absurd (omega arith)
+told-list list verdict more (theirs.refused e) q = absurd (cc)
+told-list list verdict more (theirs.storing g) q = absurd (cc)
+told-list list verdict more theirs.cleared q = absurd (cc)
+told-list list verdict more (theirs.matched l g) q = absurd (cc)
 told-list list verdict more (theirs.resolved l) q = let same : list ≡ l = cc in ap theirs.resolved (sym same)
-told-list list verdict more (theirs.home v) q = let z : ◌≡◌ {A = ℕ} 0 1 = cc in absurd (omega arith)
+told-list list verdict more (theirs.home v) q = absurd (cc)
 
 -- any fresh snapshots of the same entries, any fresh caches of the same capacity
 module _ (std : Std) (iter : Iter ℕ) (w : World) (begins : Fresh std entries_in w) (capacities : (i : ℕ) → (w.caches i).capacity ≡ 1) where

@@ -58,7 +58,7 @@ pub first-smallest : Iter ℕ
 first-smallest = record { min_by_last_used = first_smallest; given = in_them; smallest = least; none_if_empty = nothing }
   where
     in_them : (es : HashMap ℕ) (x : Pair) → first_smallest es ≡ some x → Memᴰ x es
-    in_them [] x e = let z : ◌≡◌ {A = ℕ} 0 1 = cc in absurd (omega arith)
+    in_them [] x e = absurd (cc)
     in_them (y ∷ es) x e = let s : smallest_of y es ≡ x = cc in subst (λ z. Memᴰ z (y ∷ es)) s (at (smallest_in y es))
       where
         at : (smallest_of y es ≡ y) ⊎ Memᴰ (smallest_of y es) es → Memᴰ (smallest_of y es) (y ∷ es)
@@ -71,4 +71,4 @@ first-smallest = record { min_by_last_used = first_smallest; given = in_them; sm
 
     nothing : (es : HashMap ℕ) → first_smallest es ≡ none → es ≡ []
     nothing [] e = refl
-    nothing (y ∷ es) e = let z : ◌≡◌ {A = ℕ} 0 1 = cc in absurd (omega arith)
+    nothing (y ∷ es) e = absurd (cc)

@@ -1,6 +1,5 @@
 -- A table that the original's `build` gave walks alike under any generation.
 use Prim.Native.Nat.{ℕ}
-use native.Mathlib.Omega.{arith}
 use mathlib.Core.Path.{◌≡◌, ap}
 use mathlib.Core.Bool.{Bool, true, false}
 use mathlib.Core.List.{List, [], ◌∷◌, map}
@@ -22,7 +21,7 @@ module _ (std : Std) (builder : SublistBuilder ℕ) (g h : ℕ) (table : Sublist
   by_worst : (flat : List ℕ × List Node) (worst_case : ℕ) (over : Bool)
       → ◌≡◌ {A = Outcome (Sublist ℕ)} (when over then Err (ForkLimitExceeded worst_case 1024) else Ok (record { nodes = flat.1; targets = flat.0; generation = g })) (Ok table)
       → ◌≡◌ {A = Outcome (Sublist ℕ)} (when over then Err (ForkLimitExceeded worst_case 1024) else Ok (record { nodes = flat.1; targets = flat.0; generation = h })) (Ok (stamp table h))
-  by_worst flat worst_case true e = let z : ◌≡◌ {A = ℕ} 0 1 = cc in absurd (omega arith)
+  by_worst flat worst_case true e = absurd (cc)
   by_worst flat worst_case false e =
       let same : record { nodes = flat.1; targets = flat.0; generation = g } ≡ table = cc in
       ap (λ (t : Sublist ℕ). Ok (stamp t h)) same
@@ -36,8 +35,8 @@ module _ (std : Std) (builder : SublistBuilder ℕ) (g h : ℕ) (table : Sublist
           → (r >>= (λ worst_case. when ltb 1024 worst_case then Err (ForkLimitExceeded worst_case 1024) else Ok (record { nodes = flat.1; targets = flat.0; generation = g }))) ≡ Ok table
           → (r >>= (λ worst_case. when ltb 1024 worst_case then Err (ForkLimitExceeded worst_case 1024) else Ok (record { nodes = flat.1; targets = flat.0; generation = h }))) ≡ Ok (stamp table h)
       by_flat (Ok n) flat e = by_worst flat n (ltb 1024 n) e
-      by_flat (Err x) flat e = let z : ◌≡◌ {A = ℕ} 0 1 = cc in absurd (omega arith)
-      by_flat Panic flat e = let z : ◌≡◌ {A = ℕ} 0 1 = cc in absurd (omega arith)
+      by_flat (Err x) flat e = absurd (cc)
+      by_flat Panic flat e = absurd (cc)
 
       ends : ℕ → Outcome (List ℕ × List Node) → Outcome (Sublist ℕ)
       ends k r =
@@ -46,14 +45,14 @@ module _ (std : Std) (builder : SublistBuilder ℕ) (g h : ℕ) (table : Sublist
 
       by_nodes : (r : Outcome (List ℕ × List Node)) → ends g r ≡ Ok table → ends h r ≡ Ok (stamp table h)
       by_nodes (Ok flat) e = by_flat (worst_case_frontier flat.1) flat e
-      by_nodes (Err x) e = let z : ◌≡◌ {A = ℕ} 0 1 = cc in absurd (omega arith)
-      by_nodes Panic e = let z : ◌≡◌ {A = ℕ} 0 1 = cc in absurd (omega arith)
+      by_nodes (Err x) e = absurd (cc)
+      by_nodes Panic e = absurd (cc)
 
       by_arena : (r : Outcome (Arena ℕ)) → (r >>= (λ arena. ends g (each_scratch std arena 0 arena.nodes [] []))) ≡ Ok table
           → (r >>= (λ arena. ends h (each_scratch std arena 0 arena.nodes [] []))) ≡ Ok (stamp table h)
       by_arena (Ok arena) e = by_nodes (each_scratch std arena 0 arena.nodes [] []) e
-      by_arena (Err x) e = let z : ◌≡◌ {A = ℕ} 0 1 = cc in absurd (omega arith)
-      by_arena Panic e = let z : ◌≡◌ {A = ℕ} 0 1 = cc in absurd (omega arith)
+      by_arena (Err x) e = absurd (cc)
+      by_arena Panic e = absurd (cc)
 
 -- the list that a table with these entries gives for a subject
 abbrev pub walked_by : List TableEntry → List ℕ → List ℕ

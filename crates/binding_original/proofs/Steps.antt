@@ -35,12 +35,12 @@ use Rattle.binding.specs.Calls.{store, clearing, asking, asking_home, Kept, repl
 use Rattle.binding.specs.Built.{BuiltFrom}
 use Rattle.binding.proofs.Builds.{built_accepts, built_bound}
 use Rattle.binding.proofs.Tables.{table-holds}
+use Rattle.resolve_cache_rules.proofs.Slots.{or_false}
 use Rattle.binding_original.specs.Original as original
 use Rattle.binding_original.specs.Original.{Iter, single-home, snapshot_match_into, resolve-single-home}
 use Rattle.binding_original.specs.Calls.{SnapshotInArea, Yard, cabinet_of, with_cabinet, NamedCall, reply_on, after_on, World, with_snapshot, with_cache, Asked, stores, clears, matches, homes, Told, storing, cleared, matched, home, parsed, call, told, added, refusing, Compared, TableOf}
 use Rattle.binding_original.specs.Caches.{Seen, counted, spoils, stamps, compares}
 use Rattle.binding_original.proofs.Stamping.{walked_by, stamped-walks}
-use Rattle.binding_original.proofs.Keeping.{or_false}
 use Rattle.binding_original.proofs.SameResolve.{Sound, Right, cleared-sound, cleared-right}
 use Rattle.binding_original.proofs.Texts.{verdict_same, reply_of, compared_handed}
 use Rattle.binding_original.proofs.Together.{Both, stands_at, Together, seen_by, nothing, with_caches, later_cache, later, stands, stays}

@@ -7,7 +7,6 @@
 --   meets          Together → Together of what is known when a call is made on snapshot j
 --   stays          Together of y → Together of y as a call on snapshot j leaves it if it leaves the snapshot
 use Prim.Native.Nat.{ℕ, suc, ◌≤◌}
-use native.Mathlib.Omega.{arith}
 use mathlib.Core.Path.{◌≡◌, refl, sym, ◌∙◌, ap, subst, fun_ext}
 use mathlib.Core.Bool.{Bool, true, false}
 use mathlib.Core.List.{List, ◌∷◌}
@@ -23,11 +22,11 @@ use Rattle.sublist_original.specs.Original.{Std}
 use Rattle.sublist_snapshot.proofs.Copies.{HoldsIn}
 use Rattle.binding.specs.Calls.{Kept}
 use Rattle.binding.specs.Demand.{worst_of}
+use Rattle.resolve_cache_rules.proofs.Slots.{or_false}
 use Rattle.binding_original.specs.Original.{SublistSnapshot, ResolveCache}
 use Rattle.binding_original.specs.Calls.{SnapshotInArea, Yard, with_cabinet, World, with_snapshot}
 use Rattle.binding_original.specs.Caches.{Seen, standing, meeting}
 use Rattle.binding_original.proofs.Stamping.{walked_by, Walks}
-use Rattle.binding_original.proofs.Keeping.{or_false}
 use Rattle.binding_original.proofs.SameResolve.{Sound, Right, later_sound, stood-sound, new-right}
 
 -- a snapshot of ours and one of the original's hold a table of the same entries under one generation, and their counters are equal
@@ -64,7 +63,7 @@ or_true true y e = refl
 or_true false y e = e
 
 never : (b : Bool) → b ≡ true → b ≡ false → ⊥
-never b p q = let z : ◌≡◌ {A = ℕ} 0 1 = cc in omega arith
+never b p q = cc
 
 module _ (std : Std) (k : Seen) (m : ℕ) (y : Yard) (w : World) (held : Together std k m y w) where
   -- the same snapshots, other caches

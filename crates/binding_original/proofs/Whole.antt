@@ -55,7 +55,7 @@ unfolding with_capacity
 fresh-capacity n c a e = go (short (max 1 n) a) e
   where
     go : (b : Bool) → pick b (answer 17 []) (answer 0 (cache_numbers (fresh (max 1 n)))) ≡ answer 0 (cache_numbers c) → max 1 n ≡ c.capacity
-    go true e = let z : ◌≡◌ {A = ℕ} 0 1 = cc in absurd (omega arith)
+    go true e = absurd (cc)
     go false e =
         let r : cache_numbers (fresh (max 1 n)) ≡ cache_numbers c = cc in
         ap (λ (l : List ℕ). get_or l 0 0) r

@@ -1,64 +1,65 @@
 -- A subject as it is put together, token by token.
-use Prim.Native.Nat.{ℕ, ◌+◌, ◌≤◌, ◌<◌}
-use native.Mathlib.Nat.{add-suc, add_assoc}
-use native.Mathlib.Numerals.{add-one}
-use native.Mathlib.Omega.{arith}
-use mathlib.Core.Path.{◌≡◌, refl, sym, ◌∙◌}
-use mathlib.Core.Bool.{Bool, true, false}
-use mathlib.Core.List.{List, [], ◌∷◌, ◌++◌, append_assoc}
-use mathlib.Core.Option.{Option, none, some}
-use lib.Dec.{ltb}
-use lib.ListN.{length, length-append, get_or, drop, set}
-use lib.Seq.{drop-cons, drop-length, sets}
-use borrow.Author.Tests.{lt-ltb, le-ltb, ltb-true, ltb-false}
+use Rattle.std.proofs.Common.{◌≡◌, ℕ, ◌+◌, ◌-◌, ◌≤◌, ◌<◌, min, ◌⊎◌, Bool, true, false, ltb, List, [], ◌∷◌, ◌++◌, length, take, drop, refl, sym, ap, ◌∙◌, append_assoc, add_assoc, length-append, inl, inr, arith}
+use Rattle.std.proofs.Math.Option.{Option, none, some}
+use Rattle.std.proofs.lemmas.Bool.{cases_lt}
+use Rattle.std.proofs.lemmas.List.{take-append-drop, take_all, length-take-le}
+use Rattle.std.proofs.Math.Seq.{take-length, length-sets}
+use Rattle.std.proofs.lemmas.List.Edits.{sets, sets-eq}
+use Rattle.std.proofs.lemmas.Slice.{put_mid-paste}
+use borrow.Rule.Slice.PartMut.{put_mid}
+use borrow.Author.Tests.{lt-ltb, le-ltb, ltb-true}
 use Rattle.subject_rules.specs.Choice.{pick}
 use Rattle.subject_rules.proofs.Stores.{sets-out, sets-append}
 use Rattle.crossing_rules.specs.Crossing.{followed}
-use Rattle.crossing.specs.Writing.{Progress, upto, nowhere, reached, dotted, progress}
-use Rattle.crossing.specs.declared.Reach.{Reach}
-use Rattle.crossing.specs.declared.Reach.TheVariants.{Upto, Nowhere}
+use Rattle.crossing.specs.Writing.{Progress, upto, nowhere, dotted, progress}
 
--- a token of which i bytes are copied to out, the first to the place `at`
-module _ (out token : List ℕ) (at i : ℕ) (x : List ℕ) (e : sets out (at + i) (drop i token) ≡ x) where
-  pub copied_all : i ≡ length token → out ≡ x
-  copied_all h = rw (h, drop-length token) at e
+-- bytes copied to where a list has a place for each
+copied : (out bs ys : List ℕ) (at n : ℕ) → n ≡ length bs → at + n ≤ length out → ys ≡ bs → put_mid at n out ys ≡ sets out at bs
+copied out bs ys at n l h q = put_mid-paste at n out ys bs n q refl l ∙ (rw (l, take-length bs) (sym (sets-eq bs out at (omega arith))))
 
-  pub copied_full : length out ≤ at + i → out ≡ x
-  copied_full h = sym (sets-out out (at + i) (drop i token) h) ∙ e
+-- no more than the first n bytes are stored where the list ends behind them
+cut : (out bs : List ℕ) (at n : ℕ) → n ≤ length bs → length out ≤ at + n → sets out at (take n bs) ≡ sets out at bs
+cut out bs at n h l =
+    let k = length-take-le n bs h in
+    sym (sets-out (sets out at (take n bs)) (at + length (take n bs)) (drop n bs) (omega (arith, length-sets out at (take n bs), k)))
+    ∙ sym (sets-append out at (take n bs) (drop n bs))
+    ∙ ap (sets out at) (take-append-drop n bs)
 
-  pub copied_next : i < length token → sets (set out (at + i) (get_or token i 0)) (at + (i + 1)) (drop (i + 1) token) ≡ x
-  copied_next h = rw (add-one i, add-suc at i) (rw (drop-cons token i 0 h) at e)
+-- bytes copied to a place, as far as the list goes
+pub written : (out bs ys : List ℕ) (at start end : ℕ) → start ≡ min at (length out) → end ≡ min (at + length bs) (length out) → ys ≡ take (end - start) bs
+    → put_mid start (end - start) out ys ≡ sets out at bs
+written out bs ys at start end s e q = go (cases_lt (length out) at) (cases_lt (length out) (at + length bs))
+  where
+    go : (length out < at) ⊎ (at ≤ length out) → (length out < at + length bs) ⊎ (at + length bs ≤ length out) → put_mid start (end - start) out ys ≡ sets out at bs
+    go (inl h) o =
+        let none : end - start ≡ 0 = omega arith in
+        copied out [] ys start (end - start) none (omega arith) (rw none at q) ∙ sym (sets-out out at bs (omega arith))
+    go (inr h) (inl l) =
+        let here : start ≡ at = omega arith in
+        copied out (take (end - start) bs) ys start (end - start) (sym (length-take-le (end - start) bs (omega arith))) (omega arith) q
+        ∙ cut out bs start (end - start) (omega arith) (omega arith) ∙ ap (λ (k : ℕ). sets out k bs) here
+    go (inr h) (inr l) =
+        let here : start ≡ at = omega arith in
+        copied out bs ys start (end - start) (omega arith) (omega arith) (q ∙ take_all (end - start) bs (omega arith)) ∙ ap (λ (k : ℕ). sets out k bs) here
 
 -- a token and the dot behind it
 module _ (t : List ℕ) (at : ℕ) (out : List ℕ) where
-  pub put-long : 4097 ≤ at + length t → nowhere ≡ progress (some (t ∷ [])) at out
+  pub put-long : 4096 < at + length t → nowhere ≡ progress (some (t ∷ [])) at out
   unfolding progress
   put-long h = rw (length-append t (0x2e ∷ []), lt-ltb 4097 (at + (length t + 1)) (omega arith))
 
-  pub put_whole : at + length t < 4097 → (copied after : List ℕ) → copied ≡ sets out at t → after ≡ set copied (at + length t) 0x2e
-      → upto (at + length t + 1) after ≡ progress (some (t ∷ [])) at out
+  pub put_whole : at + length t ≤ 4096 → (n m : ℕ) (half after : List ℕ) → n ≡ at + length t → half ≡ sets out at t → m ≡ n + 1 → after ≡ sets half n (0x2e ∷ [])
+      → upto m after ≡ progress (some (t ∷ [])) at out
   unfolding progress
-  put_whole h copied after e f =
-      rw (length-append t (0x2e ∷ []), le-ltb 4097 (at + (length t + 1)) (omega arith), sets-append out at t (0x2e ∷ []), f, e, add_assoc at (length t) 1)
+  put_whole h n m half after a c b d =
+      rw (length-append t (0x2e ∷ []), le-ltb 4097 (at + (length t + 1)) (omega arith), sets-append out at t (0x2e ∷ []), d, c, b, a, add_assoc at (length t) 1)
 
 -- bytes are put behind `at` bytes, unless a subject may not have so many
 abbrev stored : Bool → List ℕ → ℕ → List ℕ → Progress
 stored long bs at out = pick long nowhere (upto (at + length bs) (sets out at bs))
 
--- no more than 4,096 bytes and a dot are reached
-put-within : (o : Option (List (List ℕ))) (at : ℕ) (out : List ℕ) (n : ℕ) (after : List ℕ) → upto n after ≡ progress o at out → n ≤ 4097
-unfolding progress
-put-within none at out n after e = let z : ◌≡◌ {A = ℕ} 0 1 = cc in absurd (omega arith)
-put-within (some ts) at out n after e = go (ltb 4097 (at + length (dotted ts))) refl e
-  where
-    go : (long : Bool) → ltb 4097 (at + length (dotted ts)) ≡ long → upto n after ≡ stored long (dotted ts) at out → n ≤ 4097
-    go true l f = let z : ◌≡◌ {A = ℕ} 0 1 = cc in absurd (omega arith)
-    go false l f =
-        let z : n ≡ at + length (dotted ts) = cc in
-        omega (arith, ltb-false 4097 (at + length (dotted ts)) l)
-
 -- more tokens are put behind those that were
-abbrev onward : Progress → Option (List (List ℕ)) → Progress
+abbrev pub onward : Progress → Option (List (List ℕ)) → Progress
 onward (upto n out) rest = progress rest n out
 onward nowhere rest = nowhere
 
@@ -77,21 +78,9 @@ put_first t ts at out = rw (← append_assoc t (0x2e ∷ []) (dotted ts)) (go (t
     go us false l = rw (length-append us (dotted ts), sets-append out at us (dotted ts), add_assoc at (length us) (length (dotted ts)))
 
 -- a token, if there is one, and those behind it
-put-followed : (o : Option (List ℕ)) (rest : Option (List (List ℕ))) (at : ℕ) (out : List ℕ)
+pub put-followed : (o : Option (List ℕ)) (rest : Option (List (List ℕ))) (at : ℕ) (out : List ℕ)
     → progress (followed o rest) at out ≡ onward (progress (followed o (some [])) at out) rest
 unfolding progress
 put-followed none rest at out = refl
 put-followed (some t) none at out = onward_none (progress (some (t ∷ [])) at out)
 put-followed (some t) (some ts) at out = put_first t ts at out
-
--- x is what the tokens that are left make of the output; the first of them is put
-module _ (o : Option (List ℕ)) (rest : Option (List (List ℕ))) (at : ℕ) (out : List ℕ) (x : Progress) (e : progress (followed o rest) at out ≡ x)
-    (r : Reach) (after : List ℕ) (p : reached r after ≡ progress (followed o (some [])) at out) where
-  put_next : onward (reached r after) rest ≡ x
-  put_next = rw p (sym (put-followed o rest at out) ∙ e)
-
-  pub put-stops : r ≡ Nowhere → nowhere ≡ x
-  put-stops h = rw h at put_next
-
-  pub put_goes : (n : ℕ) → r ≡ Upto n → (progress rest n after ≡ x) × (n ≤ 4097)
-  put_goes n h = (rw h at put_next, put-within (followed o (some [])) at out n after (rw h at p))

@@ -1,6 +1,6 @@
 -- What `put_crossing` puts together is the subject that is shown, a dot behind it.
 use Prim.Native.Nat.{ℕ, suc, ◌+◌, ◌-◌, ◌≤◌, ◌<◌}
-use native.Mathlib.Nat.{zero-add, sub-zero}
+use native.Mathlib.Nat.{zero-add}
 use native.Mathlib.Numerals.{add-one}
 use native.Mathlib.Omega.{arith}
 use mathlib.Core.Path.{◌≡◌, refl, ◌∙◌}
@@ -8,9 +8,10 @@ use mathlib.Core.Bool.{Bool, true, false}
 use mathlib.Core.List.{List, [], ◌∷◌, ◌++◌, append_assoc, append-nil}
 use mathlib.Core.Option.{Option, none, some}
 use lib.Dec.{ltb, leb-suc-suc}
-use lib.ListN.{length, length-append, length-take, take, drop, drop_of_length-le}
-use lib.Seq.{set_out, sets, length-sets, sets-eq}
+use lib.ListN.{length, length-append, take, drop, drop_of_length-le}
+use lib.Seq.{set_out, sets, length-sets, sets-eq, length-take-le}
 use borrow.Author.Tests.{lt-ltb, le-ltb}
+use Rattle.std.proofs.Common as std
 use Rattle.subject_rules.specs.Choice.{pick}
 use Rattle.subject_rules.specs.Text.{tokens, joined}
 use Rattle.subject_rules.specs.Answers.{answer}
@@ -19,9 +20,9 @@ use Rattle.subject_rules.proofs.Depths.{tokens_some}
 use Rattle.subject_rules.proofs.Stores.{sets-append}
 use Rattle.crossing_rules.proofs.Common.{If, common_some}
 use Rattle.crossing_rules.specs.Crossing.{common, of_tokens, shown_for, show_in}
-use Rattle.crossing.specs.Writing.{Progress, upto, nowhere, reached, dotted, progress}
-use Rattle.crossing.specs.declared.Reach.{Reach}
-use Rattle.crossing.specs.declared.Reach.TheVariants.{Upto, Nowhere}
+use Rattle.crossing.specs.declared.Writer.{Writer}
+use Rattle.crossing.specs.Writing.{Progress, upto, nowhere, reached, dotted, progress, dotted_in}
+use Rattle.crossing.specs.Puts.{reached_by}
 
 dotted-joined : (ts : List (List ℕ)) → 1 ≤ length ts → dotted ts ≡ joined ts ++ (0x2e ∷ [])
 dotted-joined [] h = absurd (omega arith)
@@ -47,58 +48,71 @@ shown-put : (filler first second out : List ℕ) → progress (common filler (to
 unfolding shown_for
 shown-put filler first second out = joined-put (common filler (tokens first) (tokens second)) (common_some filler (tokens first) (tokens second) (tokens_some first)) out
 
+-- what a writer put from the first place on
+module _ (filler first second out : List ℕ) (r : std.Option (Unit {0})) (v : Writer) (e : reached_by r v ≡ progress (common filler (tokens first) (tokens second)) 0 out) where
+  put_is : (o : Option (List ℕ)) → shown_for filler first second ≡ o → reached_by r v ≡ text_put o out
+  put_is o s = rw s at (e ∙ shown-put filler first second out)
+
+  pub together_none : r ≡ std.None → nowhere ≡ dotted_in (shown_for filler first second) out
+  together_none h = go (shown_for filler first second) (rw h at (put_is _ refl))
+    where
+      go : (o : Option (List ℕ)) → nowhere ≡ text_put o out → nowhere ≡ dotted_in o out
+      go none f = refl
+      go (some s) f = let z : ◌≡◌ {A = ℕ} 0 1 = cc in absurd (omega arith)
+
+  module _ {u : Unit {0}} (h : r ≡ std.Some u) where
+    pub together_some : 1 ≤ v.at
+    together_some = go (shown_for filler first second) (rw h at (put_is _ refl))
+      where
+        go : (o : Option (List ℕ)) → upto v.at v.out.now ≡ text_put o out → 1 ≤ v.at
+        go none f = let z : ◌≡◌ {A = ℕ} 0 1 = cc in absurd (omega arith)
+        go (some s) f = let z : v.at ≡ suc (length s) = cc in omega arith
+
+    pub together : (after : List ℕ) → after ≡ v.out.now → upto (v.at - 1) after ≡ dotted_in (shown_for filler first second) out
+    together after k = rw k (go (shown_for filler first second) (rw h at (put_is _ refl)))
+      where
+        go : (o : Option (List ℕ)) → upto v.at v.out.now ≡ text_put o out → upto (v.at - 1) v.out.now ≡ dotted_in o out
+        go none f = let z : ◌≡◌ {A = ℕ} 0 1 = cc in absurd (omega arith)
+        go (some s) f =
+            let z : v.at ≡ suc (length s) = cc in
+            let w : v.out.now ≡ sets out 0 (s ++ (0x2e ∷ [])) = cc in
+            let n : v.at - 1 ≡ length s = omega arith in
+            rw (n, w)
+
 -- where the output has as many places as the text has bytes, the dot falls outside
 sets_whole : (out s : List ℕ) → length out ≡ length s → sets out 0 (s ++ (0x2e ∷ [])) ≡ s
 sets_whole out s h =
     sets-append out 0 s (0x2e ∷ []) ∙ set_out (sets out 0 s) (0 + length s) 0x2e (omega (arith, length-sets out 0 s))
     ∙ sets-eq s out 0 (omega arith) ∙ (rw (drop_of_length-le out {i = 0 + length s} (omega arith)) (append-nil s))
 
--- the text s is shown, n bytes with the dot behind it
-module _ (s out : List ℕ) (n : ℕ) (w : n ≡ suc (length s)) where
-  text-short : length out < n - 1 → outcome (answer 21 ((n - 1) ∷ [])) out ≡ show_in (some s) out
-  text-short h =
-      let z : n - 1 ≡ length s = omega arith in
-      rw (lt-ltb (length out) (length s) (omega arith), z)
-
-  text_whole : n - 1 ≤ length out → (r : Reach) (text : List ℕ) → reached r text ≡ text_put (some s) (take (n - 1 - 0) out)
-      → outcome (answer 0 (1 ∷ (n - 1) ∷ [])) (text ++ drop (n - 1 - 0) out) ≡ show_in (some s) out
-  text_whole h r text e =
-      let z : n - 1 ≡ length s = omega arith in
-      rw (le-ltb (length out) (length s) (omega arith), sub-zero (n - 1), z, go r e)
+-- the subject, if there is one, was put in no place, which says how long it is
+module _ (o : Option (List ℕ)) (out : List ℕ) where
+  pub shown-none : nowhere ≡ dotted_in o [] → outcome (answer 0 (0 ∷ [])) out ≡ show_in o out
+  shown-none e = go o e
     where
-      go : (x : Reach) → reached x text ≡ text_put (some s) (take (n - 1 - 0) out) → text ≡ s
-      go (Upto m) f = let t : text ≡ sets (take (n - 1 - 0) out) 0 (s ++ (0x2e ∷ [])) = cc in t ∙ sets_whole (take (n - 1 - 0) out) s (omega (arith, length-take (n - 1 - 0) out, w, h))
-      go Nowhere f = let z : ◌≡◌ {A = ℕ} 0 1 = cc in absurd (omega arith)
+      go : (o : Option (List ℕ)) → nowhere ≡ dotted_in o [] → outcome (answer 0 (0 ∷ [])) out ≡ show_in o out
+      go none e = refl
+      go (some s) e = let z : ◌≡◌ {A = ℕ} 0 1 = cc in absurd (omega arith)
 
-none_before : (part out : List ℕ) → length part ≡ 0 → part ++ out ≡ out
-none_before [] out h = refl
-none_before (b ∷ part) out h = absurd (omega arith)
-
--- the subject, if there is one, was put in no place: `part` is what is left of that
-module _ (filler first second out : List ℕ) (r : Reach) (part : List ℕ) (z : length part ≡ 0)
-    (e : reached r part ≡ progress (common filler (tokens first) (tokens second)) 0 []) where
-  pub shows_none : r ≡ Nowhere → outcome (answer 0 (0 ∷ [])) (part ++ out) ≡ show_in (shown_for filler first second) out
-  shows_none h = rw (none_before part out z) (go (shown_for filler first second) (rw h at (e ∙ shown-put filler first second [])))
-    where
-      go : (o : Option (List ℕ)) → nowhere ≡ text_put o [] → outcome (answer 0 (0 ∷ [])) out ≡ show_in o out
-      go none f = refl
-      go (some t) f = let x : ◌≡◌ {A = ℕ} 0 1 = cc in absurd (omega arith)
-
-  module _ (n : ℕ) (h : r ≡ Upto n) where
-    found : (t : List ℕ) × (shown_for filler first second ≡ some t) × (n ≡ suc (length t))
-    found = go (shown_for filler first second) (rw h at (e ∙ shown-put filler first second []))
+  module _ (size : ℕ) (rest : List ℕ) (e : upto size rest ≡ dotted_in o []) where
+    pub shown-short : length out < size → outcome (answer 21 (size ∷ [])) out ≡ show_in o out
+    shown-short h = go o e
       where
-        go : (o : Option (List ℕ)) → upto n part ≡ text_put o [] → (t : List ℕ) × (o ≡ some t) × (n ≡ suc (length t))
-        go none f = let x : ◌≡◌ {A = ℕ} 0 1 = cc in absurd (omega arith)
-        go (some t) f = (t, refl, cc)
+        go : (o : Option (List ℕ)) → upto size rest ≡ dotted_in o [] → outcome (answer 21 (size ∷ [])) out ≡ show_in o out
+        go none e = let z : ◌≡◌ {A = ℕ} 0 1 = cc in absurd (omega arith)
+        go (some s) e = let same : size ≡ length s = cc in rw (same, lt-ltb (length out) (length s) (omega arith))
 
-    pub shows_some : 1 ≤ n
-    shows_some = omega (arith, found.2)
-
-    pub shows_short : length (part ++ out) < n - 1 → outcome (answer 21 ((n - 1) ∷ [])) (part ++ out) ≡ show_in (shown_for filler first second) out
-    shows_short k = rw (none_before part out z, found.1) (text-short found.0 out n found.2 (rw (none_before part out z) at k))
-
-    pub shows_whole : n - 1 ≤ length (part ++ out) → (r2 : Reach) (text : List ℕ) → reached r2 text ≡ progress (common filler (tokens first) (tokens second)) 0 (take (n - 1 - 0) (part ++ out))
-        → outcome (answer 0 (1 ∷ (n - 1) ∷ [])) (text ++ drop (n - 1 - 0) (part ++ out)) ≡ show_in (shown_for filler first second) out
-    shows_whole k r2 text f =
-        rw (none_before part out z, found.1) (text_whole found.0 out n found.2 (rw (none_before part out z) at k) r2 text (rw (shown-put filler first second (take (n - 1 - 0) (part ++ out)), none_before part out z, found.1) at f))
+    -- then in so many places
+    pub shown_whole : size ≤ length out → (r : std.Option ℕ) (left : List ℕ) → reached r left ≡ dotted_in o (take size out)
+        → outcome (answer 0 (1 ∷ size ∷ [])) (left ++ drop size out) ≡ show_in o out
+    shown_whole h r left f = go o r e f
+      where
+        go : (o : Option (List ℕ)) (r : std.Option ℕ) → upto size rest ≡ dotted_in o [] → reached r left ≡ dotted_in o (take size out)
+            → outcome (answer 0 (1 ∷ size ∷ [])) (left ++ drop size out) ≡ show_in o out
+        go none r e f = let z : ◌≡◌ {A = ℕ} 0 1 = cc in absurd (omega arith)
+        go (some s) std.None e f = let z : ◌≡◌ {A = ℕ} 0 1 = cc in absurd (omega arith)
+        go (some s) (std.Some m) e f =
+            let same : size ≡ length s = cc in
+            let put : left ≡ sets (take size out) 0 (s ++ (0x2e ∷ [])) = cc in
+            let whole : left ≡ s = put ∙ sets_whole (take size out) s (length-take-le size out h ∙ same) in
+            rw (same, le-ltb (length out) (length s) (omega arith), whole)

@@ -2,235 +2,184 @@
 // Both patterns are gone through twice: once to learn how long the subject is, then to write it.
 #![tactic(auto)]
 
-ghost use Rattle.std.specs.Prelude.{◌≡◌, [], ◌∷◌, map, ◌≤◌, length, set};
+ghost use Rattle.std.specs.Prelude.{◌≡◌, ◌+◌, [], ◌∷◌, map, ◌≤◌, length};
 ghost use Rattle.std.proofs.Math.Option.{some};
 ghost use Rattle.std.proofs.lemmas.List.Edits.{sets};
 ghost use Rattle.subject_rules.specs.Text.{tokens};
-ghost use Rattle.subject_rules.specs.Answers.{answer, when_accepted};
 ghost use Rattle.subject_rules.specs.Outputs.{outcome};
-ghost use Rattle.subject.specs.Answers.{parsed};
 ghost use Rattle.subject.specs.Reading.{tokens_from};
 ghost use Rattle.crossing_rules.specs.Crossing.{is_wild, plain, meet, followed, common};
-ghost use Rattle.crossing_rules.specs.Crossing.{shown_for, show_in, crossing_with, crossing};
+ghost use Rattle.crossing_rules.specs.Crossing.{shown_for, crossing_with, crossing};
 ghost use Rattle.crossing.specs.Answers.{crossed};
-ghost use Rattle.crossing.specs.Writing.{reached, progress, ends_at};
+ghost use Rattle.crossing.specs.Writing.{reached, dotted_in};
+ghost use Rattle.crossing.specs.declared.CrossingError.TheVariants.{Invalid};
 
-use subject::{MAX_TEXT, Parsed, SubjectError, Token};
+use subject::{MAX_TEXT, SubjectError, Tokens};
 
-// A subject of so many bytes that two patterns both match, or that there is none; or a refusal.
+// Why two patterns are refused; or that the output is too short, and the length needed.
 #[derive(Clone, Copy)]
-pub enum Crossed {
-    Common(usize),
-    Apart,
+pub enum CrossingError {
     Invalid(SubjectError),
     OutShort(usize),
 }
 
-// How far a subject is put together, in bytes, a dot behind each token; or that there is none.
-#[derive(Clone, Copy)]
-enum Reach {
-    Upto(usize),
-    Nowhere,
+impl From<SubjectError> for CrossingError {
+    ghost from_gives = { λ error result. result ≡ Invalid error };
+
+    fn from(error: SubjectError) -> CrossingError {
+        CrossingError::Invalid(error)
+    }
 }
 
-// A token's bytes are copied to a place, as far as the output goes.
-fn copy_token(token: &[u8], at: usize, out: &mut [u8])
-    requires { (at ≤ 4097)
-        × (length token.now ≤ 4096) }
-    ensures { out.new ≡ sets out.old at token.now }
-{
-    let size = out.len();
-    let mut i = 0;
-    while i < token.len() {
-        if size <= at + i {
-            return;
+// A subject as it is put together in an output, a dot behind each token, as far as the output goes. The filler stands
+// in positions that are wild in both patterns.
+#[derive(Drop)]
+struct Writer<'a> {
+    filler: &'a [u8],
+    out: &'a mut [u8],
+    at: usize,
+    ghost within: { at ≤ 4097 },
+}
+
+impl Writer<'_> {
+    ghost use Rattle.crossing.specs.Puts.{Puts};
+
+    // Bytes, as far as the output goes.
+    fn write(&mut self, bytes: &[u8])
+        requires { self.old.at + length bytes.now ≤ 4097 }
+        ensures same_output { self.new.out.ghost_name ≡ self.old.out.ghost_name }
+        ensures same_filler { self.new.filler ≡ self.old.filler }
+        ensures at { self.new.at ≡ self.old.at + length bytes.now }
+        ensures out { self.new.out.now ≡ sets self.old.out.now self.old.at bytes.now }
+    {
+        let size = self.out.len();
+        let start = self.at.min(size);
+        self.at += bytes.len();
+        let end = self.at.min(size);
+        self.out[start..end].copy_from_slice(&bytes[..end - start]);
+    }
+
+    // A token and a dot behind it, if a subject may have so many bytes.
+    fn put(&mut self, token: &[u8]) -> Option<()>
+        ensures { Puts (some (token.now ∷ [])) result self.old self.new }
+    {
+        if MAX_TEXT < self.at + token.len() {
+            return None;
         }
-        out[at + i] = token[i];
-        i += 1;
+        self.write(token);
+        self.write(b".");
+        Some(())
     }
-}
 
-// A dot is put at a place, if the output has it.
-fn put_dot(at: usize, out: &mut [u8])
-    ensures { out.new ≡ set out.old at 0x2e }
-{
-    if at < out.len() {
-        out[at] = 0x2e;
+    // A pattern's token and a dot behind it, the filler in place of a wildcard.
+    fn put_plain(&mut self, token: &[u8]) -> Option<()>
+        ensures { Puts (some (plain self.old.filler.now token.now ∷ [])) result self.old self.new }
+    {
+        if is_wild(token) {
+            self.put(self.filler)
+        } else {
+            self.put(token)
+        }
     }
-}
 
-// A token and a dot behind it are put at a place, if a subject may have so many bytes.
-fn put(token: &[u8], at: usize, out: &mut [u8]) -> Reach
-    requires { at ≤ 4097 }
-    ensures { reached result out.new ≡ progress (some (token.now ∷ [])) at out.old }
-{
-    if MAX_TEXT + 1 - at <= token.len() {
-        return Reach::Nowhere;
+    // What two patterns' tokens, neither of them `>`, have in common, and a dot behind it.
+    fn put_common(&mut self, first: &[u8], second: &[u8]) -> Option<()>
+        ensures { Puts
+            (followed (meet self.old.filler.now first.now second.now) (some []))
+            result self.old self.new }
+    {
+        if subject::is_star(first) {
+            return self.put_plain(second);
+        }
+        if subject::is_star(second) || subject::same_bytes(first, second) {
+            return self.put(first);
+        }
+        None
     }
-    let end = at + token.len();
-    copy_token(token, at, out);
-    put_dot(end, out);
-    Reach::Upto(end + 1)
+
+    // A token of a pattern and those behind it.
+    fn put_rest(&mut self, token: &[u8], behind: Tokens<'_>) -> Option<()>
+        ensures { Puts
+            (some (map (plain self.old.filler.now)
+            (token.now ∷ tokens_from behind.entry.text.now behind.entry.at)))
+            result self.old self.new }
+    {
+        self.put_plain(token)?;
+        for token in behind {
+            self.put_plain(token)?;
+        }
+        Some(())
+    }
+
+    // The tokens that two patterns have in common.
+    fn put_crossing(&mut self, first: &[u8], second: &[u8]) -> Option<()>
+        ensures { Puts
+            (common self.old.filler.now (tokens first.now) (tokens second.now))
+            result self.old self.new }
+    {
+        let mut tokens = subject::new(first);
+        let mut others = subject::new(second);
+        while let Some(token) = tokens.next() {
+            let other = others.next()?;
+            if subject::is_tail(token) {
+                return self.put_rest(other, others);
+            }
+            if subject::is_tail(other) {
+                return self.put_rest(token, tokens);
+            }
+            self.put_common(token, other)?;
+        }
+        match others.next() {
+            Some(_) => None,
+            None => Some(()),
+        }
+    }
 }
 
 // Whether a token is a wildcard.
 fn is_wild(token: &[u8]) -> bool
     ensures { result ≡ is_wild token.now }
 {
-    if subject::is_star(token) {
-        return true;
-    }
-    subject::is_tail(token)
+    subject::is_star(token) || subject::is_tail(token)
 }
 
-// A pattern's token and a dot behind it, the filler in place of a wildcard.
-fn put_plain(token: &[u8], filler: &[u8], at: usize, out: &mut [u8]) -> Reach
-    requires { at ≤ 4097 }
+// The length of the subject that two patterns have in common, if there is one. It is put in the output with a dot
+// behind it, as far as the output goes.
+fn put_together(first: &[u8], second: &[u8], filler: &[u8], out: &mut [u8]) -> Option<usize>
     ensures { reached result out.new
-        ≡ progress (some (plain filler.now token.now ∷ [])) at out.old }
+        ≡ dotted_in (shown_for filler.now first.now second.now) out.old }
 {
-    if is_wild(token) {
-        return put(filler, at, out);
-    }
-    put(token, at, out)
+    let mut writer = Writer { filler, out, at: 0 };
+    writer.put_crossing(first, second)?;
+    Some(writer.at - 1)
 }
 
-// What two patterns' tokens, neither of them `>`, have in common, and a dot behind it.
-fn put_common(first: &[u8], second: &[u8], filler: &[u8], at: usize, out: &mut [u8]) -> Reach
-    requires { at ≤ 4097 }
-    ensures { reached result out.new
-        ≡ progress
-        (followed (meet filler.now first.now second.now) (some []))
-        at out.old }
-{
-    if subject::is_star(first) {
-        return put_plain(second, filler, at, out);
-    }
-    if subject::is_star(second) {
-        return put(first, at, out);
-    }
-    if subject::same_bytes(first, second) {
-        return put(first, at, out);
-    }
-    Reach::Nowhere
-}
-
-// All tokens of a pattern from a position on, one behind another.
-fn put_rest(text: &[u8], from: usize, filler: &[u8], at: usize, out: &mut [u8]) -> Reach
-    requires { at ≤ 4097 }
-    ensures { reached result out.new
-        ≡ progress
-        (some (map (plain filler.now) (tokens_from text.now from)))
-        at out.old }
-{
-    let mut p = from;
-    let mut n = at;
-    loop {
-        let Token::Part { start, end, next } = subject::token_at(text, p) else {
-            return Reach::Upto(n);
-        };
-        let Reach::Upto(upto) = put_plain(&text[start..end], filler, n, out) else {
-            return Reach::Nowhere;
-        };
-        n = upto;
-        p = next;
-    }
-}
-
-// Where the first pattern is used up: the subject is whole if the second is too.
-fn ended(at: usize, both: bool) -> Reach
-    ensures { result ≡ ends_at at both }
-{
-    if both {
-        return Reach::Upto(at);
-    }
-    Reach::Nowhere
-}
-
-// The subject that two patterns have in common, put together from the first place on, as far as the output goes.
-fn put_crossing(first: &[u8], second: &[u8], filler: &[u8], out: &mut [u8]) -> Reach
-    ensures { reached result out.new
-        ≡ progress
-        (common filler.now (tokens first.now) (tokens second.now))
-        0 out.old }
-{
-    let mut p = 0;
-    let mut q = 0;
-    let mut at = 0;
-    loop {
-        let Token::Part {
-            start: p_start,
-            end: p_end,
-            next: p_next,
-        } = subject::token_at(first, p)
-        else {
-            return ended(at, second.len() < q);
-        };
-        let Token::Part { start, end, next } = subject::token_at(second, q) else {
-            return Reach::Nowhere;
-        };
-        let token = &first[p_start..p_end];
-        let other = &second[start..end];
-        if subject::is_tail(token) {
-            return put_rest(second, q, filler, at, out);
-        }
-        if subject::is_tail(other) {
-            return put_rest(first, p, filler, at, out);
-        }
-        let Reach::Upto(upto) = put_common(token, other, filler, at, out) else {
-            return Reach::Nowhere;
-        };
-        at = upto;
-        p = p_next;
-        q = next;
-    }
-}
-
-// The refusal of a pattern.
-fn invalid(pattern: Parsed) -> Crossed
-    ensures { crossed result ≡ when_accepted (parsed pattern) (answer 0 (0 ∷ [])) }
-{
-    match pattern {
-        Parsed::Accepted(_) => Crossed::Apart,
-        Parsed::Refused(e) => Crossed::Invalid(e),
-    }
-}
-
-// What two patterns that were parsed have in common, written over the first places of the output.
-fn show(first: &[u8], second: &[u8], filler: &[u8], out: &mut [u8]) -> Crossed
-    ensures { outcome (crossed result) out.new
-        ≡ show_in (shown_for filler.now first.now second.now) out.old }
-{
-    let Reach::Upto(dotted) = put_crossing(first, second, filler, &mut out[0..0]) else {
-        return Crossed::Apart;
-    };
-    let size = dotted - 1;
-    if out.len() < size {
-        return Crossed::OutShort(size);
-    }
-    put_crossing(first, second, filler, &mut out[0..size]);
-    Crossed::Common(size)
-}
-
-// A shortest subject that two patterns both match, `filler` in each position that is wild in both; the first is parsed
-// before the second. A refusal, and that there is none, leave the output.
-pub fn crossing_with(first: &[u8], second: &[u8], filler: &[u8], out: &mut [u8]) -> Crossed
+// The length of a shortest subject that two patterns both match, `filler` in each position that is wild in both; none
+// where there is no such subject. The first is parsed before the second. A refusal, and that there is none, leave the
+// output.
+pub fn crossing_with(
+    first: &[u8],
+    second: &[u8],
+    filler: &[u8],
+    out: &mut [u8],
+) -> Result<Option<usize>, CrossingError>
     ensures { outcome (crossed result) out.new
         ≡ crossing_with filler.now first.now second.now out.old }
 {
-    let p = subject::parse(first);
-    let Parsed::Accepted(_) = p else {
-        return invalid(p);
+    subject::parse(first)?;
+    subject::parse(second)?;
+    let Some(size) = put_together(first, second, filler, &mut []) else {
+        return Ok(None);
     };
-    let q = subject::parse(second);
-    let Parsed::Accepted(_) = q else {
-        return invalid(q);
-    };
-    show(first, second, filler, out)
+    if out.len() < size {
+        return Err(CrossingError::OutShort(size));
+    }
+    put_together(first, second, filler, &mut out[..size]);
+    Ok(Some(size))
 }
 
 // The same with `x` in those positions.
-pub fn crossing(first: &[u8], second: &[u8], out: &mut [u8]) -> Crossed
+pub fn crossing(first: &[u8], second: &[u8], out: &mut [u8]) -> Result<Option<usize>, CrossingError>
     ensures { outcome (crossed result) out.new
         ≡ crossing first.now second.now out.old }
 {

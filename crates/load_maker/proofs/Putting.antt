@@ -1,35 +1,37 @@
 -- One token more of a text that is written: what is left to write gives what all of it gives.
-use Prim.Native.Nat.{ℕ, zero, suc, ◌+◌, ◌-◌, ◌≤◌, ◌<◌}
-use native.Mathlib.Omega.{arith}
-use mathlib.Core.Path.{◌≡◌}
-use mathlib.Core.Bool.{Bool}
-use mathlib.Core.List.{List}
-use lib.Dec.{eqb}
-use lib.ListN.{set}
-use lib.Seq.{sets}
+use Rattle.std.proofs.Common.{◌≡◌, ◌≢◌, ℕ, suc, ◌+◌, ◌-◌, ◌*◌, ◌<◌, Bool, List, nat_eq, arith}
+use Rattle.std.proofs.lemmas.Bool.{eq-eqb, ne_eqb}
+use Rattle.std.proofs.Math.Dec.{eqb-suc-zero}
+use Rattle.std.proofs.lemmas.List.Edits.{sets}
+use Rattle.std.proofs.Math.ListN.{set}
 use Rattle.subject_rules.specs.Text.{joined}
 use Rattle.load_maker_rules.specs.Xorshift.{draw, draws}
 use Rattle.load_maker_rules.specs.Load.{token_byte, made_tokens}
 
--- a draw, with one fewer left
-pub drawn : (left s d : ℕ) → 0 < left → d ≡ draw s → draws (left - 1) d ≡ draws left s
-drawn zero s d h e = absurd (omega arith)
-drawn (suc n) s d h e = let one : suc n - 1 ≡ n = omega arith in rw (e, one)
+module _ (i count s d : ℕ) (h : i < count) (e : d ≡ draw s) where
+  -- a draw
+  pub drawn : draws (count - (i + 1)) d ≡ draws (count - i) s
+  drawn = let left : count - i ≡ suc (count - (i + 1)) = omega arith in rw (left, e)
 
-module _ (wild : Bool) (out : List ℕ) (at s d b : ℕ) (e : d ≡ draw s) where
-  -- a token, and a dot if one more is left
-  pub put_inner : (left : ℕ) → 0 < left - 1 → b ≡ token_byte wild (eqb (left - 1) 0) d
-      → sets (set (set out at b) (at + 1) 0x2e) (at + 2) (joined (made_tokens wild (left - 1) d)) ≡ sets out at (joined (made_tokens wild left s))
-  put_inner zero h q = absurd (omega arith)
-  put_inner (suc zero) h q = absurd (omega arith)
-  put_inner (suc (suc n)) h q =
-      let one : suc (suc n) - 1 ≡ suc n = omega arith in
-      let next : at + 1 ≡ suc at = omega arith in
-      let after : at + 2 ≡ suc (suc at) = omega arith in
-      rw (q, e, one, next, after)
+  module _ (wild : Bool) (out : List ℕ) (b : ℕ) (q : b ≡ token_byte wild (nat_eq (i + 1) count) d) where
+    -- a token, and a dot if one more is left
+    pub put_inner : i + 1 ≢ count
+        → sets (set (set out (2 * i) b) (2 * i + 1) 0x2e) (2 * (i + 1)) (joined (made_tokens wild (count - (i + 1)) d))
+        ≡ sets out (2 * i) (joined (made_tokens wild (count - i) s))
+    put_inner n =
+        let left : count - i ≡ suc (suc (count - (i + 2))) = omega arith in
+        let behind : count - (i + 1) ≡ suc (count - (i + 2)) = omega arith in
+        let next : 2 * i + 1 ≡ suc (2 * i) = omega arith in
+        let after : 2 * (i + 1) ≡ suc (suc (2 * i)) = omega arith in
+        rw (q, ne_eqb (i + 1) count n, left, behind, next, after, e, eqb-suc-zero)
 
-  pub put_last : (left : ℕ) → 0 < left → left - 1 ≤ 0 → b ≡ token_byte wild (eqb (left - 1) 0) d
-      → sets (set out at b) (at + 2) (joined (made_tokens wild (left - 1) d)) ≡ sets out at (joined (made_tokens wild left s))
-  put_last zero h l q = absurd (omega arith)
-  put_last (suc zero) h l q = rw (q, e)
-  put_last (suc (suc n)) h l q = absurd (omega arith)
+    pub put_last : i + 1 ≡ count
+        → sets (set out (2 * i) b) (2 * (i + 1)) (joined (made_tokens wild (count - (i + 1)) d))
+        ≡ sets out (2 * i) (joined (made_tokens wild (count - i) s))
+    put_last l =
+        let left : count - i ≡ 1 = omega arith in
+        let behind : count - (i + 1) ≡ 0 = omega arith in
+        rw (q, eq-eqb (i + 1) count l, left, behind, e)
+
+-- each way through a turn
+pub ruleset turns = (drawn, put_inner, put_last)

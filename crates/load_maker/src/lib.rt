@@ -9,22 +9,22 @@ ghost use Rattle.load_maker_rules.specs.Xorshift.{draw, draws};
 ghost use Rattle.load_maker_rules.specs.Load.{pattern_byte, token_byte, made_tokens, make};
 ghost use Rattle.load_maker.specs.Answers.{made_by};
 
-// The length of the text that was made, or a refusal.
+// Why no text is made.
 #[derive(Clone, Copy)]
-pub enum TextAnswer {
-    Text(usize),
+pub enum MakeError {
     ZeroStart,
     OutShort(usize),
 }
 
-// What was made, and the state afterwards.
+// The length of the text that was made, or a refusal, and the state afterwards.
 #[derive(Clone, Copy)]
 pub struct MadeText {
-    pub answer: TextAnswer,
+    pub answer: Result<usize, MakeError>,
     pub state: u64,
 }
 
 // The state after this one, which is a draw: Marsaglia's xorshift.
+#[tactic(auto, unfolding(load_maker_rules::specs::Xorshift::draw))]
 pub fn draw(state: u64) -> u64
     ensures { result ≡ draw state }
 {
@@ -38,16 +38,11 @@ fn pattern_byte(last: bool, number: u64) -> u8
     requires { number ≤ 9 }
     ensures { result ≡ pattern_byte last number }
 {
-    if number == 0 {
-        return b'*';
+    match number {
+        1 if last => b'>',
+        0 | 1 => b'*',
+        _ => b'a' + (number - 2) as u8,
     }
-    if number == 1 {
-        if last {
-            return b'>';
-        }
-        return b'*';
-    }
-    b'a' + (number - 2) as u8
 }
 
 // A token by its draw.
@@ -55,12 +50,14 @@ fn token_byte(wild: bool, last: bool, drawn: u64) -> u8
     ensures { result ≡ token_byte wild last drawn }
 {
     if wild {
-        return pattern_byte(last, drawn % 10);
+        pattern_byte(last, drawn % 10)
+    } else {
+        b'a' + (drawn % 8) as u8
     }
-    b'a' + (drawn % 8) as u8
 }
 
 // So many tokens, drawn one behind another, with a dot between each two; the state afterwards.
+#[tactic(auto, using(crate::proofs::Putting::turns))]
 fn put_tokens(wild: bool, count: usize, from: u64, out: &mut [u8]) -> u64
     requires { (count ≤ 6)
         × (2 * count ≤ length out.old + 1) }
@@ -68,27 +65,25 @@ fn put_tokens(wild: bool, count: usize, from: u64, out: &mut [u8]) -> u64
         × (out.new ≡ sets out.old 0 (joined (made_tokens wild count from))) }
 {
     let mut state = from;
-    let mut at = 0;
-    let mut left = count;
-    while 0 < left {
-        left -= 1;
+    for i in 0..count {
+        let last = i + 1 == count;
         state = draw(state);
-        out[at] = token_byte(wild, left == 0, state);
-        if 0 < left {
-            out[at + 1] = b'.';
+        out[2 * i] = token_byte(wild, last, state);
+        if !last {
+            out[2 * i + 1] = b'.';
         }
-        at += 2;
     }
     state
 }
 
 // A text is made from a state, and written over the first places of the output.
+#[tactic(auto, using(crate::proofs::Stages::stages))]
 fn make(wild: bool, state: u64, out: &mut [u8]) -> MadeText
     ensures { made_by result out.new ≡ make wild state out.old }
 {
     if state == 0 {
         return MadeText {
-            answer: TextAnswer::ZeroStart,
+            answer: Err(MakeError::ZeroStart),
             state,
         };
     }
@@ -97,13 +92,13 @@ fn make(wild: bool, state: u64, out: &mut [u8]) -> MadeText
     let size = 2 * count - 1;
     if out.len() < size {
         return MadeText {
-            answer: TextAnswer::OutShort(size),
+            answer: Err(MakeError::OutShort(size)),
             state,
         };
     }
     let new = put_tokens(wild, count, first, out);
     MadeText {
-        answer: TextAnswer::Text(size),
+        answer: Ok(size),
         state: new,
     }
 }

@@ -1,6 +1,6 @@
-pub mod Decisions
-pub mod Handing
+pub mod Hashes
 pub mod Keeping
 pub mod Marks
+pub mod Refusals
+pub mod Resolving
 pub mod Scans
-pub mod Writes

@@ -1,28 +1,57 @@
--- Slots looked at by a byte or two of each: those with a mark, and the bad ones. The hash of a text's words, and its mark.
-use Rattle.std.proofs.Common.{◌≡◌, ℕ, suc, ◌+◌, ◌-◌, ◌*◌, ◌/◌, ◌%◌, ◌^◌, ◌<◌, ◌≤◌, min, Bool, true, false, ◌&&◌, ◌||◌, eqb, ltb, List, length, get_or, sym, refl, ◌∙◌, true≢false, add-one, arith, ltb-false, ltb-true, le-ltb, lt-ltb, eq-eqb}
-use lib.Bits.{bit_and, bit_xor, and_mask}
-use Rattle.subject_rules.specs.Choice.{pick, or}
-use Rattle.subject.specs.Words.{eight_at}
-use Rattle.resolve_cache_rules.specs.Mark.{hash_from, mark}
-use Rattle.resolve_cache_rules.specs.Cache.{bad_from}
+-- Slots looked at by a byte or two of each: those with a mark, and the bad ones.
+use Rattle.std.proofs.Common.{◌≡◌, ℕ, zero, suc, ◌+◌, ◌-◌, ◌*◌, ◌/◌, ◌%◌, ◌<◌, ◌≤◌, Bool, true, false, ◌&&◌, ◌||◌, nat_eq, nat_lt, ltb, List, [], ◌∷◌, length, get_or, take, drop, slice_range, fold, sym, refl, ap, ◌∙◌, true≢false, add-zero, arith, ltb-false, ltb-true, le-ltb, lt-ltb, eq-eqb, ne_eqb, min}
+use Rattle.std.specs.List.{list_any, zip}
+use Rattle.std.proofs.lemmas.List.{drop_more}
+use Rattle.std.proofs.lemmas.List.Edits.{length-between, get_or-between}
+use Rattle.std.proofs.lemmas.List.Folds.{list_any_at}
+use Rattle.std.proofs.lemmas.Slice.Zip.{length-zip, get_or-zip}
+use Rattle.subject_rules.specs.Choice.{or}
+use Rattle.resolve_cache_rules.specs.Mark.{mark}
+use Rattle.resolve_cache_rules.specs.Area.{mark_at}
+use Rattle.resolve_cache_rules.specs.Cache.{bad_slot, bad_from}
+use Rattle.resolve_cache.specs.Deciding.{Absent}
 
--- bytes that hold marks, from two places on
-module _ (keys : List ℕ) (lows highs low high : ℕ) where
-  -- if any is false, none of the first n slots has both bytes of the mark
-  abbrev pub Unmarked : Bool → ℕ → Type 0
-  Unmarked any n = any ≡ false → (k : ℕ) → k < n → get_or keys (lows + k) 0 ≡ low → get_or keys (highs + k) 0 ≡ high → ⊥
+-- a fold that looks at all elements says what `any` does
+pub fold-any : {X : Type 0} (p : X → Bool) (b : Bool) (xs : List X) → fold (λ a x. a || p x) b xs ≡ (b || list_any p xs)
+fold-any p true [] = refl
+fold-any p false [] = refl
+fold-any p true (x ∷ xs) = fold-any p true xs
+fold-any p false (x ∷ xs) = fold-any p (p x) xs
 
-  -- one more slot
-  pub unmarked_turn : (any : Bool) (n : ℕ) → Unmarked any n
-      → Unmarked (any || (eqb (get_or keys (lows + n) 0) low && eqb (get_or keys (highs + n) 0) high)) (n + 1)
-  unmarked_turn true n before e k l p q = absurd (true≢false e)
-  unmarked_turn false n before e k l p q = go (ltb k n) refl
-    where
-      go : (b : Bool) → ltb k n ≡ b → ⊥
-      go true f = before refl k (ltb-true k n f) p q
-      go false f =
-          let z : k ≡ n = omega (arith, ltb-false k n f) in
-          true≢false (sym (rw (eq-eqb _ low (rw z at p), eq-eqb _ high (rw z at q))) ∙ e)
+-- 32 bytes from a place on
+module _ (keys : List ℕ) (from : ℕ) (room : from + 32 ≤ length keys) where
+  abbrev run : List ℕ
+  run = slice_range keys from (from + 32)
+
+  run-length : length run ≡ 32
+  run-length = simp length-between (omega arith)
+
+  run-at : (k : ℕ) → k < 32 → get_or run k 0 ≡ get_or keys (from + k) 0
+  run-at k h = get_or-between keys from (from + 32) k 0 (omega arith)
+
+-- 32 slots from i on, by their bytes in the two lists of marks: where no pair is a mark's, none of the slots has it
+module _ (c i low high : ℕ) (keys : List ℕ) (byte : (j : ℕ) → get_or keys j 0 < 256) (small : low < 256)
+    (lows : 2 * c + i + 32 ≤ length keys) (highs : 3 * c + i + 32 ≤ length keys) where
+  abbrev paired : ℕ × ℕ → Bool
+  paired p = nat_eq p.0 low && nat_eq p.1 high
+
+  abbrev pub pairs : List (ℕ × ℕ)
+  pairs = zip (run keys (2 * c + i) lows) (run keys (3 * c + i) highs)
+
+  pub unmarked : fold (λ (any : Bool) (p : ℕ × ℕ). any || (nat_eq p.0 low && nat_eq p.1 high)) false pairs ≡ false
+      → (k : ℕ) → k < 32 → mark_at c keys (i + k) ≡ low + 256 * high → ⊥
+  unmarked none k h e =
+      let at_low : 2 * c + i + k ≡ 2 * c + (i + k) = omega arith in
+      let at_high : 3 * c + i + k ≡ 3 * c + (i + k) = omega arith in
+      let first = run-at keys (2 * c + i) lows k h ∙ ap (λ j. get_or keys j 0) at_low in
+      let second = run-at keys (3 * c + i) highs k h ∙ ap (λ j. get_or keys j 0) at_high in
+      let is_low : get_or keys (2 * c + (i + k)) 0 ≡ low = omega (arith, byte (2 * c + (i + k))) in
+      let is_high : get_or keys (3 * c + (i + k)) 0 ≡ high = omega (arith, byte (2 * c + (i + k))) in
+      let in_low : k < length (run keys (2 * c + i) lows) = omega (arith, run-length keys (2 * c + i) lows) in
+      let in_high : k < length (run keys (3 * c + i) highs) = omega (arith, run-length keys (3 * c + i) highs) in
+      let found = list_any_at paired pairs k (0, 0) (omega (arith, length-zip (run keys (2 * c + i) lows) (run keys (3 * c + i) highs)))
+      (rw (get_or-zip, first, second, eq-eqb _ low is_low, eq-eqb _ high is_high)) in
+      true≢false (sym found ∙ sym (fold-any paired false pairs) ∙ none)
 
 -- a length's upper bits are above a number of targets in b: one of the two is too large exactly if b is over 16
 over_sixteen : (low b : ℕ) → low < 256 → or (ltb 256 (1 + low + 256 * (b / 32))) (ltb 16 (b % 32)) ≡ ltb 16 b
@@ -37,54 +66,30 @@ over_sixteen low b h = go (ltb 31 b) refl
         let z : b % 32 ≡ b = omega arith in
         rw (le-ltb 256 (1 + low + 256 * (b / 32)) (omega arith), z)
 
-or_chosen : (t bad rest : Bool) → or (pick t true bad) rest ≡ or bad (or t rest)
-or_chosen true true rest = refl
-or_chosen true false rest = refl
-or_chosen false bad rest = refl
+same_or : (t r : Bool) → (t || r) ≡ or t r
+same_or true r = refl
+same_or false r = refl
 
-or_nothing : (b : Bool) → or b false ≡ b
-or_nothing true = refl
-or_nothing false = refl
+-- the bad slots from i on, by the bytes of the second list
+bad-any : (c : ℕ) (keys : List ℕ) (i n : ℕ) → c + i + n ≤ length keys → ((j : ℕ) → get_or keys j 0 < 256)
+    → list_any (nat_lt 16) (take n (drop (c + i) keys)) ≡ bad_from c keys i n
+bad-any c keys i zero room byte = refl
+bad-any c keys i (suc n) room byte =
+    let next : c + i + 1 ≡ c + suc i = omega arith in
+    rw (drop_more keys (c + i) 0 (omega arith), ← (over_sixteen (get_or keys i 0) (get_or keys (c + i) 0) (byte i)), next)
+    (same_or (bad_slot c keys i) (list_any (nat_lt 16) (take n (drop (c + suc i) keys)))
+    ∙ ap (or (bad_slot c keys i)) (bad-any c keys (suc i) n (omega arith) byte))
 
--- bad, or a bad slot from i to n, comes to x
-module _ (c : ℕ) (keys : List ℕ) (i n : ℕ) (bad x : Bool) (e : or bad (bad_from c keys i (n - i)) ≡ x) where
-  pub bad_turn : (next : Bool) → i < n → get_or keys i 0 < 256 → next ≡ pick (ltb 16 (get_or keys (c + i) 0)) true bad
-      → or next (bad_from c keys (i + 1) (n - (i + 1))) ≡ x
-  bad_turn next h l q =
-      let z : n - i ≡ suc (n - suc i) = omega arith in
-      rw (q, add-one i, or_chosen) (rw (z, over_sixteen (get_or keys i 0) (get_or keys (c + i) 0) l) at e)
+pub bad_read : (c n : ℕ) (keys : List ℕ) → c + n ≤ length keys → ((j : ℕ) → get_or keys j 0 < 256)
+    → fold (λ (bad : Bool) (b : ℕ). bad || nat_lt 16 b) false (slice_range keys c (c + n)) ≡ bad_from c keys 0 n
+bad_read c n keys room byte =
+    let part : c + n - c ≡ n = omega arith in
+    fold-any (nat_lt 16) false (slice_range keys c (c + n))
+    ∙ rw part (rw add-zero at (bad-any c keys 0 n (omega arith) byte))
 
-  pub bad-end : n ≤ i → bad ≡ x
-  bad-end h = let z : n - i ≡ 0 = omega arith in sym (or_nothing bad) ∙ (rw z at e)
-
--- a text of no bytes has no word
-pub words_none : (text : List ℕ) (h : ℕ) → length text ≡ 0 → h ≡ hash_from text h 0 ((length text + 7) / 8)
-unfolding hash_from
-words_none text h e = rw e
-
--- the hash of the words from i on, begun at h, is x; w is word i, read at a place
-module _ (text : List ℕ) (h i x : ℕ) (e : hash_from text h i ((length text + 7) / 8 - i) ≡ x)
-    (at : ℕ) {w r : ℕ} (read : w ≡ eight_at text at) (mixed : r ≡ bit_xor h w * 0x100000001b3 % 2 ^ 64) where
-  word_on : (n : ℕ) → (length text + 7) / 8 - i ≡ suc n → at ≡ min (8 * i) (length text - 8) → hash_from text r (suc i) n ≡ x
-  unfolding hash_from
-  word_on n z place = rw (mixed, read, place) (rw z at e)
-
-  pub words_turn : at ≡ 8 * i → 8 * i + 8 < length text → hash_from text r (i + 1) ((length text + 7) / 8 - (i + 1)) ≡ x
-  words_turn p l = rw (add-one i) (word_on ((length text + 7) / 8 - suc i) (omega arith) (omega arith))
-
-  pub words-end : at ≡ length text - 8 → 8 * i < length text → length text ≤ 8 * i + 8 → r ≡ x
-  unfolding hash_from
-  words-end p l m = word_on 0 (omega arith) (omega arith)
-
-high_byte : (s : ℕ) → s / 2 ^ 24 % 2 ^ 8 ≡ s / 2 ^ 16 % 2 ^ 16 / 256
-high_byte s = let z : s / 2 ^ 24 ≡ s / 2 ^ 16 / 256 = omega arith in omega arith
-
--- a mark's bytes, as `mark_of` takes them from the hash
-module _ (key : List ℕ) {h : ℕ} (e : h ≡ hash_from key 0xcbf29ce484222325 0 ((length key + 7) / 8)) where
-  pub mark_low : bit_and (h / 2 ^ 32 * 0x1e3779b1 / 2 ^ 16) 0xff ≡ mark key % 256
-  unfolding mark
-  mark_low = rw (← e) (and_mask (h / 2 ^ 32 * 0x1e3779b1 / 2 ^ 16) 8 ∙ omega arith)
-
-  pub mark_high : bit_and (h / 2 ^ 32 * 0x1e3779b1 / 2 ^ 24) 0xff ≡ mark key / 256
-  unfolding mark
-  mark_high = rw (← e) (and_mask (h / 2 ^ 32 * 0x1e3779b1 / 2 ^ 24) 8 ∙ high_byte (h / 2 ^ 32 * 0x1e3779b1))
+-- where none of 32 slots has the mark, none of them keeps the subject
+pub absent_in_run : (c from to sought : ℕ) (keys subject : List ℕ) → sought ≡ mark subject → ((k : ℕ) → k < 32 → mark_at c keys (from + k) ≡ sought → ⊥)
+    → Absent c keys subject from (min to (from + 32))
+absent_in_run c from to sought keys subject is none i after before =
+    let at : from + (i - from) ≡ i = omega arith in
+    rw (ne_eqb (mark_at c keys i) (mark subject) (λ e. none (i - from) (omega arith) (ap (mark_at c keys) at ∙ e ∙ sym is)))

@@ -4,36 +4,39 @@
 // less one; the number of targets; the mark, low byte and high byte) and then 256 bytes a slot, `kept` 16 targets.
 #![tactic(auto)]
 
-ghost use Rattle.std.specs.Prelude.{◌≡◌, ℕ, ◌+◌, ◌-◌, ◌*◌, ◌/◌, ◌%◌, ◌<◌, ◌≤◌, true, false, []};
-ghost use Rattle.std.specs.Prelude.{◌∷◌, length, set, ◌≢◌, slice_index, slice_set};
-ghost use Rattle.subject_rules.specs.Answers.{answer, when_accepted};
-ghost use Rattle.subject.specs.Answers.{parsed};
-ghost use Rattle.sublist_tree.specs.Lists.{put};
+ghost use Rattle.std.specs.Prelude.{◌≡◌, ◌≢◌, ℕ, ◌+◌, ◌-◌, ◌*◌, ◌/◌, ◌<◌, ◌≤◌, false, length, min, slice_index};
 ghost use Rattle.sublist_walk_rules.specs.Walk.{part};
-ghost use Rattle.sublist_snapshot.specs.Snapshot.{wrap};
-ghost use Rattle.resolve_cache_rules.specs.Mark.{hash_from};
-ghost use Rattle.resolve_cache_rules.specs.Area.{key_length, keep_key, keep};
-ghost use Rattle.resolve_cache_rules.specs.Cache.{bad_from, bad, keeps_at, find_from, oldest_from, place};
+ghost use Rattle.sublist_walk.specs.Answers.{match_refusal};
+ghost use Rattle.resolve_cache_rules.specs.Mark.{hash_from, mark};
+ghost use Rattle.resolve_cache_rules.specs.Area.{mark_at, keep_key, keep};
+ghost use Rattle.resolve_cache_rules.specs.Cache.{short, bad_from, bad, keeps_at, find_from, oldest_from, place};
 ghost use Rattle.resolve_cache_rules.specs.Cache.{adopt, ticked, hit, walked, grown};
 ghost use Rattle.resolve_cache_rules.specs.Cache.{qualifies, handed, resolve};
 ghost use Rattle.resolve_cache_rules.specs.Answers.{lent};
-ghost use Rattle.resolve_cache.specs.Answers.{resolve_answer, left, list_of};
 ghost use Rattle.resolve_cache_rules.specs.Ready.{Wide, Ready, Accepted, Small};
-ghost use Rattle.resolve_cache.specs.Deciding.{IsMark, slot_of, seen, Keeps};
-ghost use Rattle.resolve_cache.specs.Deciding.{walking, Decides};
+ghost use Rattle.resolve_cache.specs.declared.ResolveError.TheVariants.{Invalid};
+ghost use Rattle.resolve_cache.specs.Answers.{resolve_refusal, resolve_answer, left, list_of};
+ghost use Rattle.resolve_cache.specs.Deciding.{area_of, SameLists, Keeps, leaving, walking};
+ghost use Rattle.resolve_cache.specs.Deciding.{FirstOf};
 
 use resolve_cache_rules::{KEY_BYTES, ResolveCache, SLOT_LISTS, SLOT_TARGETS, Tick};
-use subject::{Parsed, SubjectError};
-use sublist_snapshot::{Generation, Snapshot, SnapshotMatch};
+use subject::SubjectError;
+use sublist_snapshot::{Generation, Snapshot};
+use sublist_walk::MatchError;
 
 // How many slots are looked at together for a mark.
 const RUN: usize = 32;
 
-// Where a resolve's list lies: a part of the cache's targets, or the first places of the output. Or why it is refused.
+// Where a resolve's list lies: a part of the cache's targets, or the first places of the output.
 #[derive(Clone, Copy)]
-pub enum ResolveAnswer {
+pub enum ListPlace {
     Kept { from: usize, count: usize },
     Walked { count: usize },
+}
+
+// Why a resolve is refused.
+#[derive(Clone, Copy)]
+pub enum ResolveError {
     Invalid(SubjectError),
     CacheShort,
     BadSlot,
@@ -41,33 +44,52 @@ pub enum ResolveAnswer {
     OutShort(usize),
 }
 
+impl From<SubjectError> for ResolveError {
+    ghost from_gives = { λ e r. r ≡ Invalid e };
+
+    fn from(e: SubjectError) -> ResolveError {
+        ResolveError::Invalid(e)
+    }
+}
+
+impl From<MatchError> for ResolveError {
+    ghost from_gives = { λ e r. resolve_refusal r ≡ match_refusal e };
+
+    fn from(e: MatchError) -> ResolveError {
+        match e {
+            MatchError::Invalid(e) => ResolveError::Invalid(e),
+            MatchError::Damaged => ResolveError::Damaged,
+            MatchError::OutShort(needed) => ResolveError::OutShort(needed),
+        }
+    }
+}
+
 // A resolve's answer, and the cache afterwards.
 #[derive(Clone, Copy)]
 pub struct Resolved {
     pub cache: ResolveCache,
-    pub answer: ResolveAnswer,
+    pub answer: Result<ListPlace, ResolveError>,
 }
 
-// A slot that keeps a subject's list.
-#[derive(Clone, Copy)]
-enum Slot {
-    At(usize),
-    Nothing,
+// A cache's slots, as they are lent.
+#[derive(Drop)]
+struct Slots<'a> {
+    stamps: &'a mut [u64],
+    keys: &'a mut [u8],
+    kept: &'a mut [u32],
 }
 
-// The mark of a key: its low byte and its high byte.
-#[derive(Clone, Copy)]
-struct Mark {
-    low: u8,
-    high: u8,
-}
-
-// What a resolve comes to before anything is written.
-#[derive(Clone, Copy)]
-enum Decision {
-    Refuse(ResolveAnswer),
-    Hit { slot: usize, count: usize },
-    Walk,
+// The keys of the slots in use, none of which is bad.
+#[derive(Drop)]
+struct Keys<'a> {
+    bytes: &'a [u8],
+    capacity: usize,
+    used: usize,
+    ghost inside: { used ≤ capacity },
+    ghost few: { capacity ≤ 1024 },
+    ghost room: { 260 * capacity ≤ length bytes.now },
+    ghost each: { (i : ℕ) → slice_index bytes.now i < 256 },
+    ghost small: { Small capacity bytes.now used },
 }
 
 // The targets of a subject, from the cache or by a walk of the standing table, whose list is then kept.
@@ -87,28 +109,28 @@ pub fn resolve(
         ≡ resolve cache (lent stamps.old keys.old kept.old)
         snapshot area.now subject.now out.old }
 {
-    match decide(cache, stamps, keys, kept, snapshot, area, subject, out) {
-        Decision::Refuse(answer) => refuse(cache, answer),
-        Decision::Hit { slot, count } => show(cache, stamps, snapshot, slot, count),
-        Decision::Walk => walk(cache, stamps, keys, kept, snapshot, area, subject, out),
+    let mut slots = Slots { stamps, keys, kept };
+    let mut next = cache;
+    let answer = slots.look_up(&mut next, snapshot, area, subject, out);
+    Resolved {
+        cache: next,
+        answer,
     }
 }
 
-impl ResolveAnswer {
-    // The list that an answer hands back: a part of the cache's targets or of the output, as the resolve left them.
-    // A refusal hands back none.
-    pub fn list<'a>(self, kept: &'a [u32], out: &'a [u32]) -> &'a [u32]
-        ensures { result.now ≡ list_of (handed (resolve_answer self) kept.now out.now) }
-    {
-        match self {
-            ResolveAnswer::Kept { from, count } => part(kept, from, count),
-            ResolveAnswer::Walked { count } => part(out, 0, count),
-            ResolveAnswer::Invalid(_) => &out[..0],
-            ResolveAnswer::CacheShort => &out[..0],
-            ResolveAnswer::BadSlot => &out[..0],
-            ResolveAnswer::Damaged => &out[..0],
-            ResolveAnswer::OutShort(_) => &out[..0],
-        }
+// The list that an answer hands back: a part of the cache's targets or of the output, as the resolve left them.
+// A refusal hands back none.
+pub fn list<'a>(
+    answer: Result<ListPlace, ResolveError>,
+    kept: &'a [u32],
+    out: &'a [u32],
+) -> &'a [u32]
+    ensures { result.now ≡ list_of (handed (resolve_answer answer) kept.now out.now) }
+{
+    match answer {
+        Ok(ListPlace::Kept { from, count }) => part(kept, from, count),
+        Ok(ListPlace::Walked { count }) => part(out, 0, count),
+        Err(_) => &out[..0],
     }
 }
 
@@ -116,351 +138,191 @@ impl ResolveAnswer {
 fn part<'a>(words: &'a [u32], from: usize, count: usize) -> &'a [u32]
     ensures { result.now ≡ part words.now from count }
 {
-    if words.len() < from {
-        return &words[..0];
-    }
-    if words.len() - from < count {
-        return &words[from..];
-    }
-    let end = from + count;
-    &words[from..end]
+    let rest = &words[from.min(words.len())..];
+    &rest[..count.min(rest.len())]
 }
 
 // 18 on the slots: one of the first n has a key over 256 bytes or over 16 targets, so that its byte of the second list
-// is over 16. The loop has no other way out, and compiles to steps of sixteen bytes.
+// is over 16. The fold has no other way out, and compiles to steps of sixteen bytes.
 fn has_bad_slot(keys: &[u8], capacity: usize, n: usize) -> bool
     requires { (n ≤ capacity)
         × (capacity ≤ 1024)
         × (260 * capacity ≤ length keys.now) }
     ensures { result ≡ bad_from capacity keys.now 0 n }
 {
-    let mut bad = false;
-    let mut i = 0;
-    while i < n {
-        if 16 < keys[capacity + i] {
-            bad = true;
-        }
-        i += 1;
-    }
-    bad
-}
-
-// 18: capacity is 0, more slots are used than capacity, or a used slot is bad.
-fn is_bad(cache: ResolveCache, stamps: &[u64], keys: &[u8], kept: &[u32]) -> bool
-    requires { Wide cache.capacity (lent stamps.now keys.now kept.now) }
-    ensures { result ≡ bad cache (lent stamps.now keys.now kept.now) }
-{
-    if cache.capacity == 0 {
-        return true;
-    }
-    if cache.capacity < cache.used {
-        return true;
-    }
-    has_bad_slot(keys, cache.capacity, cache.used)
-}
-
-// Where a text's last word begins.
-fn last_word(text: &[u8]) -> usize
-    ensures { result ≡ length text.now - 8 }
-{
-    if text.len() < 8 {
-        return 0;
-    }
-    text.len() - 8
+    keys[capacity..capacity + n]
+        .iter()
+        .fold(false, |bad, count| bad | (16 < *count))
 }
 
 // The hash of a text's words.
 fn word_hash(text: &[u8]) -> u64
     ensures { result ≡ hash_from text.now 0xcbf29ce484222325 0 ((length text.now + 7) / 8) }
 {
-    let mut h: u64 = 0xcbf29ce484222325;
-    if text.len() == 0 {
-        return h;
-    }
-    let mut i = 0;
-    while 8 < text.len() - 8 * i {
-        h = subject::mix_word(h, subject::word_at(text, 8 * i));
-        i += 1;
-    }
-    subject::mix_word(h, subject::word_at(text, last_word(text)))
+    let last = text.len().saturating_sub(8);
+    (0..text.len().div_ceil(8)).fold(0xcbf29ce484222325, |hash, i| {
+        subject::mix_word(hash, subject::word_at(text, (8 * i).min(last)))
+    })
 }
 
 // The mark of a key.
-fn mark_of(key: &[u8]) -> Mark
-    ensures { IsMark result key.now }
+#[tactic(auto, using(crate::proofs::Hashes::mark_is))]
+fn mark_of(key: &[u8]) -> u16
+    ensures { result ≡ mark key.now }
 {
     let spread = (word_hash(key) >> 32) * 0x1e3779b1;
-    let low = ((spread >> 16) & 0xff) as u8;
-    let high = ((spread >> 24) & 0xff) as u8;
-    Mark { low, high }
+    ((spread >> 16) & 0xffff) as u16
 }
 
-// Whether one of 32 slots may have a mark; its bytes lie from two places on.
-// The loop has no other way out, and compiles to steps of sixteen bytes.
-fn any_marked(keys: &[u8], lows: usize, highs: usize, sought: Mark) -> bool
-    requires { (lows + 32 ≤ length keys.now)
-        × (highs + 32 ≤ length keys.now) }
-    ensures { result ≡ false → (k : ℕ) → k < 32
-        → slice_index keys.now (lows + k) ≡ sought.low
-        → slice_index keys.now (highs + k) ≢ sought.high }
-{
-    let mut any = false;
-    let mut k = 0;
-    while k < RUN {
-        any = any | ((keys[lows + k] == sought.low) & (keys[highs + k] == sought.high));
-        k += 1;
-    }
-    any
-}
-
-// Whether a slot keeps the list of a subject that has this mark: the same mark and the same bytes.
-fn keeps(keys: &[u8], capacity: usize, i: usize, sought: Mark, subject: &[u8]) -> bool
-    requires inside { (i < capacity)
-        × (capacity ≤ 1024)
-        × (260 * capacity ≤ length keys.now)
-        × (key_length capacity keys.now i ≤ 256) }
-    requires mark { IsMark sought subject.now }
-    ensures { result ≡ keeps_at capacity keys.now subject.now i }
-{
-    if keys[2 * capacity + i] != sought.low {
-        return false;
-    }
-    if keys[3 * capacity + i] != sought.high {
-        return false;
-    }
-    let length = keys[i] as usize + 1;
-    let start = SLOT_LISTS * capacity + KEY_BYTES * i;
-    let end = start + length;
-    subject::same_bytes(&keys[start..end], subject)
-}
-
-// The first slot from one place up to another that keeps the list of a subject; slot by slot.
-fn find_between(
-    keys: &[u8],
-    capacity: usize,
-    from: usize,
-    to: usize,
-    sought: Mark,
-    subject: &[u8],
-) -> Slot
-    requires span { (from ≤ to)
-        × (to ≤ capacity)
-        × (capacity ≤ 1024)
-        × (260 * capacity ≤ length keys.now) }
-    requires small { Small capacity keys.now to }
-    requires mark { IsMark sought subject.now }
-    ensures { slot_of result ≡ find_from capacity keys.now subject.now from (to - from) }
-{
-    let mut i = from;
-    while i < to {
-        if keeps(keys, capacity, i, sought, subject) {
-            return Slot::At(i);
+impl<'a> Keys<'a> {
+    // The keys of so many slots in use.
+    fn new(bytes: &'a [u8], capacity: usize, used: usize) -> Keys<'a>
+        requires room { (used ≤ capacity)
+            × (capacity ≤ 1024)
+            × (260 * capacity ≤ length bytes.now) }
+        requires small { Small capacity bytes.now used }
+        ensures { (result.bytes ≡ bytes.entry)
+            × (result.capacity ≡ capacity)
+            × (result.used ≡ used) }
+    {
+        Keys {
+            bytes,
+            capacity,
+            used,
         }
-        i += 1;
     }
-    Slot::Nothing
-}
 
-// The first slot of a run that keeps the list of a subject. A run without the mark is passed over.
-fn find_in_run(
-    keys: &[u8],
-    capacity: usize,
-    from: usize,
-    to: usize,
-    sought: Mark,
-    subject: &[u8],
-) -> Slot
-    requires span { (from < to)
-        × (to ≤ from + 32)
-        × (to ≤ capacity)
-        × (capacity ≤ 1024)
-        × (260 * capacity ≤ length keys.now) }
-    requires small { Small capacity keys.now to }
-    requires mark { IsMark sought subject.now }
-    ensures { slot_of result ≡ find_from capacity keys.now subject.now from (to - from) }
-{
-    if any_marked(keys, 2 * capacity + from, 3 * capacity + from, sought) {
-        return find_between(keys, capacity, from, to, sought, subject);
+    // Whether one of the 32 slots from a place on may have a mark.
+    // The fold has no other way out, and compiles to steps of sixteen bytes.
+    fn any_marked(&self, from: usize, sought: u16) -> bool
+        requires { from < self.now.used }
+        ensures { result ≡ false → (k : ℕ) → k < 32
+            → mark_at self.now.capacity self.now.bytes.now (from + k) ≢ sought }
+    {
+        let [low, high] = sought.to_le_bytes();
+        let lows = 2 * self.capacity + from;
+        let highs = 3 * self.capacity + from;
+        self.bytes[lows..lows + RUN]
+            .iter()
+            .zip(&self.bytes[highs..highs + RUN])
+            .fold(false, |any, (l, h)| any | ((*l == low) & (*h == high)))
     }
-    Slot::Nothing
-}
 
-// Where the run that begins at a place ends.
-fn run_end(from: usize, n: usize) -> usize
-    requires { from < n }
-    ensures { (from < result)
-        × (result ≤ from + 32)
-        × (result ≤ n) }
-{
-    if n - from < RUN {
-        return n;
-    }
-    from + RUN
-}
-
-// The first of n slots that keeps the list of a subject, run by run.
-fn find(keys: &[u8], capacity: usize, n: usize, subject: &[u8]) -> Slot
-    requires slots { (n ≤ capacity)
-        × (capacity ≤ 1024)
-        × (260 * capacity ≤ length keys.now) }
-    requires small { Small capacity keys.now n }
-    ensures { slot_of result ≡ find_from capacity keys.now subject.now 0 n }
-{
-    let sought = mark_of(subject);
-    let mut i = 0;
-    while i < n {
-        let end = run_end(i, n);
-        match find_in_run(keys, capacity, i, end, sought, subject) {
-            Slot::At(slot) => return Slot::At(slot),
-            Slot::Nothing => {}
+    // Whether a slot keeps the list of a subject that has this mark: the same mark and the same bytes.
+    fn keeps(&self, i: usize, sought: u16, subject: &[u8]) -> bool
+        requires inside { i < self.now.used }
+        requires mark { sought ≡ mark subject.now }
+        ensures { result ≡ keeps_at self.now.capacity self.now.bytes.now subject.now i }
+    {
+        let [low, high] = sought.to_le_bytes();
+        if self.bytes[2 * self.capacity + i] != low || self.bytes[3 * self.capacity + i] != high {
+            return false;
         }
-        i = end;
+        let start = SLOT_LISTS * self.capacity + KEY_BYTES * i;
+        let end = start + self.bytes[i] as usize + 1;
+        subject::same_bytes(&self.bytes[start..end], subject)
     }
-    Slot::Nothing
+
+    // The first slot of a run that keeps the list of a subject. A run without the mark is passed over.
+    #[tactic(auto, using(crate::proofs::Marks::absent_in_run))]
+    fn find_in_run(&self, run: usize, sought: u16, subject: &[u8]) -> Option<usize>
+        requires inside { 32 * run < self.now.used }
+        requires mark { sought ≡ mark subject.now }
+        ensures { FirstOf self.now.capacity self.now.bytes.now subject.now
+            (32 * run) (min self.now.used (32 * run + 32)) result }
+    {
+        let from = RUN * run;
+        if !self.any_marked(from, sought) {
+            return None;
+        }
+        (from..self.used.min(from + RUN)).find(|i| self.keeps(*i, sought, subject))
+    }
+
+    // The first slot that keeps the list of a subject, run by run.
+    fn find(&self, subject: &[u8]) -> Option<usize>
+        ensures { FirstOf self.now.capacity self.now.bytes.now subject.now 0 self.now.used result }
+    {
+        let sought = mark_of(subject);
+        for run in 0..self.used.div_ceil(RUN) {
+            if let Some(slot) = self.find_in_run(run, sought, subject) {
+                return Some(slot);
+            }
+        }
+        None
+    }
 }
 
 // The slot of smallest stamp among the first n, the lowest on a tie.
+#[tactic(auto, using(crate::proofs::Scans::turns))]
 fn oldest(stamps: &[u64], n: usize) -> usize
     requires { (1 ≤ n)
         × (n ≤ length stamps.now) }
-    ensures { result ≡ oldest_from stamps.now 0 1 (n - 1) }
+    ensures { (result ≡ oldest_from stamps.now 0 1 (n - 1))
+        × (result < n) }
 {
     let mut best = 0;
-    let mut i = 1;
-    while i < n {
+    for i in 1..n {
         if stamps[i] < stamps[best] {
             best = i;
         }
-        i += 1;
     }
     best
-}
-
-// The slot that a new list goes to: the first unused one, or the one of smallest stamp.
-fn place(cache: ResolveCache, stamps: &[u64], keys: &[u8], kept: &[u32]) -> usize
-    requires { Ready cache (lent stamps.now keys.now kept.now) }
-    ensures { (result ≡ place cache (lent stamps.now keys.now kept.now))
-        × (result < cache.capacity) }
-{
-    if cache.used < cache.capacity {
-        return cache.used;
-    }
-    oldest(stamps, cache.used)
 }
 
 // The cache on a table's generation: emptied if it was on another.
 fn adopt(cache: ResolveCache, generation: Generation) -> ResolveCache
     ensures { result ≡ adopt generation cache }
 {
-    let own = cache.generation;
-    if own.0 == generation.0 {
+    if cache.generation.0 == generation.0 {
         return cache;
     }
-    let tick = Tick(0);
-    let mut next = cache;
-    next.used = 0; // its lists are another table's
-    next.generation = generation;
-    next.tick = tick;
-    next
+    ResolveCache {
+        used: 0, // its lists are another table's
+        generation,
+        tick: Tick(0),
+        ..cache
+    }
 }
 
 fn next_tick(cache: ResolveCache) -> Tick
     ensures { result ≡ ticked cache }
 {
-    let tick = cache.tick;
-    Tick(std::num::wrapping_add_u64(tick.0, 1))
+    Tick(cache.tick.0.wrapping_add(1))
 }
 
-fn next_walks(cache: ResolveCache) -> u64
-    ensures { result ≡ wrap (cache.walks + 1) }
-{
-    std::num::wrapping_add_u64(cache.walks, 1)
-}
-
-// The cache after a hit.
+// The cache after a hit, which is no walk.
 fn hit(cache: ResolveCache) -> ResolveCache
     ensures { result ≡ hit cache }
 {
-    let tick = next_tick(cache);
-    let mut next = cache;
-    next.tick = tick; // and no walk is counted
-    next
+    ResolveCache {
+        tick: next_tick(cache),
+        ..cache
+    }
 }
 
 // The cache after a walk that keeps nothing.
 fn walked(cache: ResolveCache) -> ResolveCache
     ensures { result ≡ walked cache }
 {
-    let mut next = hit(cache);
-    next.walks = next_walks(cache);
-    next
-}
-
-// How many slots are used once one more list is kept.
-fn used_after(cache: ResolveCache) -> usize
-    ensures { result ≡ (grown cache).used }
-{
-    if cache.used < cache.capacity {
-        return cache.used + 1;
+    ResolveCache {
+        walks: cache.walks.wrapping_add(1),
+        ..hit(cache)
     }
-    cache.used
 }
 
 // The cache after a walk whose list is kept.
 fn grown(cache: ResolveCache) -> ResolveCache
     ensures { result ≡ grown cache }
 {
-    let mut next = walked(cache);
-    next.used = used_after(cache);
-    next
-}
-
-// A slot is stamped.
-fn touch(stamps: &mut [u64], i: usize, stamp: u64)
-    requires { i < length stamps.old }
-    ensures { stamps.new ≡ slice_set stamps.old i stamp }
-{
-    stamps[i] = stamp;
-}
-
-fn put_bytes(to: &mut [u8], from: usize, new: &[u8])
-    requires { from + length new.now ≤ length to.old }
-    ensures { to.new ≡ put to.old from new.now }
-{
-    let mut i = 0;
-    while i < new.len() {
-        to[from + i] = new[i];
-        i += 1;
+    let used = if cache.used < cache.capacity {
+        cache.used + 1
+    } else {
+        cache.used
+    };
+    ResolveCache {
+        used,
+        ..walked(cache)
     }
-}
-
-fn put_words(to: &mut [u32], from: usize, new: &[u32])
-    requires { from + length new.now ≤ length to.old }
-    ensures { to.new ≡ put to.old from new.now }
-{
-    let mut i = 0;
-    while i < new.len() {
-        to[from + i] = new[i];
-        i += 1;
-    }
-}
-
-// A slot's bytes in the four lists: the length of its key, the number of targets, the mark.
-fn put_lists(keys: &mut [u8], capacity: usize, i: usize, size: usize, count: usize, own: Mark)
-    requires { (i < capacity)
-        × (capacity ≤ 1024)
-        × (260 * capacity ≤ length keys.old)
-        × (1 ≤ size)
-        × (size ≤ 256)
-        × (count ≤ 16) }
-    ensures { keys.new
-        ≡ slice_set (set (slice_set (slice_set keys.old i (size - 1)) (capacity + i) count)
-        (2 * capacity + i) own.low) (3 * capacity + i) own.high }
-{
-    keys[i] = (size - 1) as u8;
-    keys[capacity + i] = count as u8;
-    keys[2 * capacity + i] = own.low;
-    keys[3 * capacity + i] = own.high;
 }
 
 // A slot's key, with its length, the number of targets and its mark.
@@ -473,214 +335,140 @@ fn put_key(keys: &mut [u8], capacity: usize, i: usize, key: &[u8], count: usize)
         × (count ≤ 16) }
     ensures { keys.new ≡ keep_key capacity keys.old i key.now count }
 {
-    let own = mark_of(key);
-    put_lists(keys, capacity, i, key.len(), count, own);
-    put_bytes(keys, SLOT_LISTS * capacity + KEY_BYTES * i, key);
-}
-
-// A list is kept in a slot under a key, with a stamp.
-fn keep(
-    stamps: &mut [u64],
-    keys: &mut [u8],
-    kept: &mut [u32],
-    capacity: usize,
-    i: usize,
-    subject: &[u8],
-    list: &[u32],
-    stamp: u64,
-)
-    requires wide { Wide capacity (lent stamps.old keys.old kept.old) }
-    requires inside { (i < capacity)
-        × (1 ≤ length subject.now)
-        × (length subject.now ≤ 256)
-        × (length list.now ≤ 16) }
-    ensures { lent stamps.new keys.new kept.new
-        ≡ keep capacity (lent stamps.old keys.old kept.old)
-        i subject.now list.now stamp }
-{
-    touch(stamps, i, stamp);
-    put_key(keys, capacity, i, subject, list.len());
-    put_words(kept, SLOT_TARGETS * i, list);
+    let [low, high] = mark_of(key).to_le_bytes();
+    keys[i] = (key.len() - 1) as u8;
+    keys[capacity + i] = count as u8;
+    keys[2 * capacity + i] = low;
+    keys[3 * capacity + i] = high;
+    let start = SLOT_LISTS * capacity + KEY_BYTES * i;
+    keys[start..start + key.len()].copy_from_slice(key);
 }
 
 // Whether a list is kept: the subject has no more than 256 bytes and the list no more than 16 targets.
 fn qualifies(subject: &[u8], list: &[u32]) -> bool
     ensures { result ≡ qualifies subject.now list.now }
 {
-    if KEY_BYTES < subject.len() {
-        return false;
-    }
-    if SLOT_TARGETS < list.len() {
-        return false;
-    }
-    true
+    subject.len() <= KEY_BYTES && list.len() <= SLOT_TARGETS
 }
 
-// The list of a walk is kept, if it qualifies. The cache is on the standing table's generation.
-fn keep_list(
-    cache: ResolveCache,
-    stamps: &mut [u64],
-    keys: &mut [u8],
-    kept: &mut [u32],
-    subject: &[u8],
-    list: &[u32],
-) -> Resolved
-    requires ready { Ready cache (lent stamps.old keys.old kept.old) }
-    requires not_empty { 1 ≤ length subject.now }
-    ensures { Keeps cache (lent stamps.old keys.old kept.old)
-        subject.now list.now
-        result (lent stamps.new keys.new kept.new) }
-{
-    let count = list.len();
-    let answer = ResolveAnswer::Walked { count };
-    if !qualifies(subject, list) {
-        return Resolved {
-            cache: walked(cache),
-            answer,
-        };
+impl Slots<'_> {
+    // 17: capacity over 1,024, or a list that is too short for so many slots.
+    fn is_short(&self, capacity: usize) -> bool
+        ensures { result ≡ short capacity (area_of self.now) }
+    {
+        resolve_cache_rules::is_short(capacity, self.stamps, self.keys, self.kept)
     }
-    let i = place(cache, stamps, keys, kept);
-    let stamp = next_tick(cache);
-    keep(
-        stamps,
-        keys,
-        kept,
-        cache.capacity,
-        i,
-        subject,
-        list,
-        stamp.0,
-    );
-    Resolved {
-        cache: grown(cache),
-        answer,
+
+    // 18: capacity is 0, more slots are used than capacity, or a used slot is bad.
+    fn is_bad(&self, cache: ResolveCache) -> bool
+        requires { Wide cache.capacity (area_of self.now) }
+        ensures { result ≡ bad cache (area_of self.now) }
+    {
+        cache.capacity == 0
+            || cache.capacity < cache.used
+            || has_bad_slot(self.keys, cache.capacity, cache.used)
     }
-}
 
-// The standing table is walked into the output, for a subject that was parsed.
-fn walk(
-    cache: ResolveCache,
-    stamps: &mut [u64],
-    keys: &mut [u8],
-    kept: &mut [u32],
-    snapshot: Snapshot,
-    area: &[u32],
-    subject: &[u8],
-    out: &mut [u32],
-) -> Resolved
-    requires ready { Ready cache (lent stamps.old keys.old kept.old) }
-    requires accepted { Accepted subject.now }
-    ensures { left result (lent stamps.new keys.new kept.new) out.new
-        ≡ walking cache (lent stamps.old keys.old kept.old)
-        snapshot area.now subject.now out.old }
-{
-    let current = adopt(cache, snapshot.generation());
-    match snapshot.match_parsed(area, subject, out) {
-        SnapshotMatch::Invalid(e) => refuse(cache, ResolveAnswer::Invalid(e)),
-        SnapshotMatch::Damaged => refuse(cache, ResolveAnswer::Damaged),
-        SnapshotMatch::OutShort(needed) => refuse(cache, ResolveAnswer::OutShort(needed)),
-        SnapshotMatch::Listed {
-            count,
-            peak: _,
-            generation: _,
-        } => keep_list(current, stamps, keys, kept, subject, &out[..count]),
+    // The first slot that keeps the list of a subject.
+    fn find(&self, cache: ResolveCache, subject: &[u8]) -> Option<usize>
+        requires ready { Ready cache (area_of self.now) }
+        requires small { Small cache.capacity self.now.keys.now cache.used }
+        ensures { FirstOf cache.capacity self.now.keys.now subject.now 0 cache.used result }
+    {
+        Keys::new(self.keys, cache.capacity, cache.used).find(subject)
     }
-}
 
-// The list that a slot keeps is shown, and the slot stamped.
-fn show(
-    cache: ResolveCache,
-    stamps: &mut [u64],
-    snapshot: Snapshot,
-    slot: usize,
-    count: usize,
-) -> Resolved
-    requires { (slot < 1024)
-        × (slot < length stamps.old) }
-    ensures { (result.answer ≡ ResolveAnswer.Kept (16 * slot) count)
-        × (result.cache ≡ hit (adopt snapshot.generation cache))
-        × (stamps.new
-        ≡ slice_set stamps.old slot (ticked (adopt snapshot.generation cache)).0) }
-{
-    let current = adopt(cache, snapshot.generation());
-    let stamp = next_tick(current);
-    touch(stamps, slot, stamp.0);
-    Resolved {
-        cache: hit(current),
-        answer: ResolveAnswer::Kept {
-            from: SLOT_TARGETS * slot,
-            count,
-        },
+    // The slot that a new list goes to: the first unused one, or the one of smallest stamp.
+    fn place(&self, cache: ResolveCache) -> usize
+        requires { Ready cache (area_of self.now) }
+        ensures { (result ≡ place cache (area_of self.now))
+            × (result < cache.capacity) }
+    {
+        if cache.used < cache.capacity {
+            return cache.used;
+        }
+        oldest(self.stamps, cache.used)
     }
-}
 
-// A refused resolve leaves the cache as it was.
-fn refuse(cache: ResolveCache, answer: ResolveAnswer) -> Resolved
-    ensures { (result.cache ≡ cache)
-        × (result.answer ≡ answer) }
-{
-    Resolved { cache, answer }
-}
-
-// The refusal of a subject, as that of a resolve.
-fn refused(text: Parsed) -> ResolveAnswer
-    ensures { resolve_answer result ≡ when_accepted (parsed text) (answer 19 []) }
-{
-    match text {
-        Parsed::Accepted(_) => ResolveAnswer::Damaged,
-        Parsed::Refused(e) => ResolveAnswer::Invalid(e),
+    // The list of a walk is kept, if it qualifies: the cache then. It is on the standing table's generation.
+    fn keep_list(&mut self, cache: ResolveCache, subject: &[u8], list: &[u32]) -> ResolveCache
+        requires ready { Ready cache (area_of self.old) }
+        requires not_empty { 1 ≤ length subject.now }
+        ensures same { SameLists self.old self.new }
+        ensures kept { Keeps cache (area_of self.old) subject.now list.now result (area_of self.new) }
+    {
+        if !qualifies(subject, list) {
+            return walked(cache);
+        }
+        let i = self.place(cache);
+        self.stamps[i] = next_tick(cache).0;
+        let keys = &mut *self.keys;
+        put_key(keys, cache.capacity, i, subject, list.len());
+        let kept = &mut *self.kept;
+        let start = SLOT_TARGETS * i;
+        kept[start..start + list.len()].copy_from_slice(list);
+        grown(cache)
     }
-}
 
-// A subject is looked for in the first n slots.
-fn look_up(keys: &[u8], capacity: usize, n: usize, subject: &[u8], room: usize) -> Decision
-    requires slots { (n ≤ capacity)
-        × (capacity ≤ 1024)
-        × (260 * capacity ≤ length keys.now) }
-    requires small { Small capacity keys.now n }
-    ensures { result
-        ≡ seen capacity keys.now
-        (find_from capacity keys.now subject.now 0 n) room }
-{
-    match find(keys, capacity, n, subject) {
-        Slot::Nothing => Decision::Walk,
-        Slot::At(slot) => {
-            let count = keys[capacity + slot] as usize;
-            if room < count {
-                return Decision::Refuse(ResolveAnswer::OutShort(count));
+    // The standing table is walked into the output, for a subject that was parsed.
+    fn walk(
+        &mut self,
+        cache: &mut ResolveCache,
+        snapshot: Snapshot,
+        area: &[u32],
+        subject: &[u8],
+        out: &mut [u32],
+    ) -> Result<ListPlace, ResolveError>
+        requires ready { Ready cache.old (area_of self.old) }
+        requires accepted { Accepted subject.now }
+        ensures same { SameLists self.old self.new }
+        ensures leaves { leaving result cache.new (area_of self.new) out.new
+            ≡ walking cache.old (area_of self.old) snapshot area.now subject.now out.old }
+    {
+        let found = snapshot.match_parsed(area, subject, out)?;
+        let current = adopt(*cache, snapshot.generation());
+        *cache = self.keep_list(current, subject, &out[..found.count]);
+        Ok(ListPlace::Walked { count: found.count })
+    }
+
+    // What a resolve comes to: 1 to 9, 17, 18, 19 on the counts, then a hit (21) or a walk.
+    fn look_up(
+        &mut self,
+        cache: &mut ResolveCache,
+        snapshot: Snapshot,
+        area: &[u32],
+        subject: &[u8],
+        out: &mut [u32],
+    ) -> Result<ListPlace, ResolveError>
+        ensures same { SameLists self.old self.new }
+        ensures leaves { leaving result cache.new (area_of self.new) out.new
+            ≡ resolve cache.old (area_of self.old) snapshot area.now subject.now out.old }
+    {
+        subject::parse_literal(subject)?;
+        if self.is_short(cache.capacity) {
+            return Err(ResolveError::CacheShort);
+        }
+        if self.is_bad(*cache) {
+            return Err(ResolveError::BadSlot);
+        }
+        if !snapshot.stands_in(area) {
+            return Err(ResolveError::Damaged);
+        }
+        let current = adopt(*cache, snapshot.generation());
+        match self.find(current, subject) {
+            Some(slot) => {
+                let count = self.keys[current.capacity + slot] as usize;
+                if out.len() < count {
+                    return Err(ResolveError::OutShort(count));
+                }
+                self.stamps[slot] = next_tick(current).0;
+                *cache = hit(current);
+                Ok(ListPlace::Kept {
+                    from: SLOT_TARGETS * slot,
+                    count,
+                })
             }
-            Decision::Hit { slot, count }
+            None => self.walk(cache, snapshot, area, subject, out),
         }
     }
-}
-
-// What a resolve comes to: 1 to 9, 17, 18, 19 on the counts, then a hit (21) or a walk.
-fn decide(
-    cache: ResolveCache,
-    stamps: &[u64],
-    keys: &[u8],
-    kept: &[u32],
-    snapshot: Snapshot,
-    area: &[u32],
-    subject: &[u8],
-    out: &[u32],
-) -> Decision
-    ensures { Decides cache (lent stamps.now keys.now kept.now)
-        snapshot area.now subject.now out.now result }
-{
-    let text = subject::parse_literal(subject);
-    let Parsed::Accepted(_) = text else {
-        return Decision::Refuse(refused(text));
-    };
-    if resolve_cache_rules::is_short(cache.capacity, stamps, keys, kept) {
-        return Decision::Refuse(ResolveAnswer::CacheShort);
-    }
-    if is_bad(cache, stamps, keys, kept) {
-        return Decision::Refuse(ResolveAnswer::BadSlot);
-    }
-    if !snapshot.stands_in(area) {
-        return Decision::Refuse(ResolveAnswer::Damaged);
-    }
-    let current = adopt(cache, snapshot.generation());
-    look_up(keys, cache.capacity, current.used, subject, out.len())
 }

@@ -59,7 +59,7 @@ same_numbers c d e =
 -- a subject that is accepted is not empty
 pub accepted_some : (subject values : List ℕ) → grammar false subject ≡ answer 0 values → 1 ≤ length subject
 unfolding grammar sequence first_bad
-accepted_some [] values e = let z : ◌≡◌ {A = ℕ} 0 3 = cc in absurd (omega arith)
+accepted_some [] values e = absurd (cc)
 accepted_some (b ∷ bs) values e = omega arith
 
 -- a fresh cache
@@ -68,7 +68,7 @@ unfolding with_capacity
 fresh_faithful due n c a e = go (short (max 1 n) a) refl e
   where
     go : (b : Bool) → short (max 1 n) a ≡ b → pick b (answer 17 []) (answer 0 (cache_numbers (fresh (max 1 n)))) ≡ answer 0 (cache_numbers c) → Faithful due 0 c a
-    go true q e = let z : ◌≡◌ {A = ℕ} 0 1 = cc in absurd (omega arith)
+    go true q e = absurd (cc)
     go false q e =
         let r : cache_numbers (fresh (max 1 n)) ≡ cache_numbers c = cc in
         subst (λ d. Faithful due 0 d a) (same_numbers (fresh (max 1 n)) c r) (record {

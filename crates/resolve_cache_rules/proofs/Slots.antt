@@ -283,7 +283,7 @@ pub record Found (c : ℕ) (keys subject : List ℕ) (i n j : ℕ) : Type 0 wher
   pub key : key_at c keys j ≡ subject
 
 pub find-sound : (c : ℕ) (keys subject : List ℕ) (i n j : ℕ) → find_from c keys subject i n ≡ some j → Found c keys subject i n j
-find-sound c keys subject i zero j e = let z : ◌≡◌ {A = ℕ} 0 1 = cc in absurd (omega arith)
+find-sound c keys subject i zero j e = absurd (cc)
 find-sound c keys subject i (suc n) j e = go (keeps_at c keys subject i) refl e (find-sound c keys subject (suc i) n j)
   where
     go : (b : Bool) → keeps_at c keys subject i ≡ b → pick b (some i) (find_from c keys subject (suc i) n) ≡ some j
@@ -312,9 +312,9 @@ find_none c keys subject i (suc n) e j h k f q = go (keeps_at c keys subject i) 
 
     go : (b : Bool) → keeps_at c keys subject i ≡ b → pick b (some i) (find_from c keys subject (suc i) n) ≡ none
         → (find_from c keys subject (suc i) n ≡ none → (j : ℕ) → suc i ≤ j → j < suc i + n → Fit c keys j → key_at c keys j ≡ subject → ⊥) → ⊥
-    go true p e ih = let z : ◌≡◌ {A = ℕ} 0 1 = cc in omega arith
+    go true p e ih = cc
     go false p e ih =
-        let other : i ≡ j → ⊥ = λ r. (let s : keeps_at c keys subject i ≡ true = rw r kept in let z : ◌≡◌ {A = ℕ} 0 1 = cc in omega arith) in
+        let other : i ≡ j → ⊥ = λ r. (let s : keeps_at c keys subject i ≡ true = rw r kept in cc) in
         ih e j (omega (arith, other)) (omega arith) f q
 
 pub oldest_least : (stamps : List ℕ) (best i n : ℕ)

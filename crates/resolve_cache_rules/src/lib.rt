@@ -3,7 +3,7 @@
 // `resolve_cache`.
 #![tactic(auto)]
 
-ghost use Rattle.std.specs.Prelude.{◌≡◌, max, eqb};
+ghost use Rattle.std.specs.Prelude.{◌≡◌, eqb};
 ghost use Rattle.resolve_cache_rules.specs.Cache.{short, with_capacity, new_cache, clear};
 ghost use Rattle.resolve_cache_rules.specs.Answers.{cache_answer, lent};
 
@@ -31,27 +31,30 @@ pub struct ResolveCache {
     pub walks: u64,
 }
 
-// A fresh cache, or an area too short for it.
+// 17: the capacity is over 1,024, or the lent area is too short for it.
 #[derive(Clone, Copy)]
-pub enum MadeCache {
-    Made(ResolveCache),
-    CacheShort,
-}
+pub struct CacheShort;
 
 impl ResolveCache {
     // The most slots that a cache may have, and how many `new` gives it.
     pub const DEFAULT_CAPACITY: usize = 1024;
 
     // A fresh cache of so many slots, one at the least, in the lent area.
-    pub fn with_capacity(capacity: usize, stamps: &[u64], keys: &[u8], kept: &[u32]) -> MadeCache
+    #[tactic(auto, unfolding(crate::specs::Cache::with_capacity))]
+    pub fn with_capacity(
+        capacity: usize,
+        stamps: &[u64],
+        keys: &[u8],
+        kept: &[u32],
+    ) -> Result<ResolveCache, CacheShort>
         ensures { cache_answer result
             ≡ with_capacity capacity (lent stamps.now keys.now kept.now) }
     {
-        let slots = at_least_one(capacity);
+        let slots = capacity.max(1);
         if is_short(slots, stamps, keys, kept) {
-            return MadeCache::CacheShort;
+            return Err(CacheShort);
         }
-        MadeCache::Made(ResolveCache {
+        Ok(ResolveCache {
             capacity: slots,
             used: 0,
             generation: Generation(0),
@@ -61,7 +64,7 @@ impl ResolveCache {
     }
 
     // A fresh cache of 1,024 slots.
-    pub fn new(stamps: &[u64], keys: &[u8], kept: &[u32]) -> MadeCache
+    pub fn new(stamps: &[u64], keys: &[u8], kept: &[u32]) -> Result<ResolveCache, CacheShort>
         ensures { cache_answer result
             ≡ new_cache (lent stamps.now keys.now kept.now) }
     {
@@ -104,35 +107,24 @@ impl ResolveCache {
     }
 
     // Emptied; generation and walks remain.
+    #[tactic(auto, unfolding(crate::specs::Cache::clear))]
     pub fn clear(self) -> ResolveCache
         ensures { result ≡ clear self }
     {
-        let tick = Tick(0);
-        let mut next = self;
-        next.used = 0;
-        next.tick = tick;
-        next
+        ResolveCache {
+            used: 0,
+            tick: Tick(0),
+            ..self
+        }
     }
-}
-
-fn at_least_one(capacity: usize) -> usize
-    ensures { result ≡ max 1 capacity }
-{
-    if capacity == 0 { 1 } else { capacity }
 }
 
 // 17: capacity over 1,024, or a list that is too short for so many slots.
 pub fn is_short(capacity: usize, stamps: &[u64], keys: &[u8], kept: &[u32]) -> bool
     ensures { result ≡ short capacity (lent stamps.now keys.now kept.now) }
 {
-    if ResolveCache::DEFAULT_CAPACITY < capacity {
-        return true;
-    }
-    if stamps.len() < capacity {
-        return true;
-    }
-    if keys.len() < (SLOT_LISTS + KEY_BYTES) * capacity {
-        return true;
-    }
-    kept.len() < SLOT_TARGETS * capacity
+    ResolveCache::DEFAULT_CAPACITY < capacity
+        || stamps.len() < capacity
+        || keys.len() < (SLOT_LISTS + KEY_BYTES) * capacity
+        || kept.len() < SLOT_TARGETS * capacity
 }

@@ -1,56 +1,67 @@
--- What stands in the local words once the bytes of areas are copied into them, and what a match on them says of a match on the bytes.
-use mathlib.Core.Path.{◌≡◌, refl, sym, ap, ◌∙◌}
-use mathlib.Core.Bool.{Bool, true, false, true≢false}
-use mathlib.Core.List.{List, [], ◌++◌, append_assoc}
-use Prim.Native.Nat.{ℕ, zero, suc, ◌+◌, ◌/◌, ◌-◌}
-use native.Mathlib.Omega.{arith}
-use lib.ListN.{length, take, drop}
-use lib.Seq.{take_at, drop_at}
-use Rattle.subject.specs.declared.SubjectError.{SubjectError}
-use Rattle.subject.specs.declared.Parsed.TheVariants.{Refused}
+-- The calls on bytes, by what the copies of their areas are: whether the copies hold them, how long numbers and their
+-- bytes are, and what a match on the copies says of the match on the bytes.
+use Rattle.std.specs.Result.{is_ok}
+use Rattle.std.proofs.Common.{Result, Ok, Err, ◌≡◌, ℕ, zero, suc, ◌+◌, ◌*◌, ◌/◌, ◌≤◌, true, false, List, [], length, refl, sym, ap, ◌∙◌}
+use Rattle.std.proofs.lemmas.Bool.{false≢true}
+use Rattle.std.proofs.Math.Nat.{div-mul-le_self}
 use Rattle.subject_rules.specs.Answers.{Answer, answer, when_accepted}
 use Rattle.subject.specs.Answers.{refusal}
 use Rattle.subject.proofs.Refusals.{refused_stands}
+use Rattle.sublist_walk.specs.declared.MatchError.{MatchError}
+use Rattle.sublist_walk.specs.declared.MatchError.TheVariants.{Invalid, Damaged, OutShort}
+use Rattle.sublist_walk.specs.Answers.{match_refusal}
+use Rattle.resolve_cache.specs.declared.ListPlace.{ListPlace}
+use Rattle.resolve_cache.specs.declared.ListPlace.TheVariants.{Kept, Walked}
+use Rattle.resolve_cache.specs.declared.ResolveError.{ResolveError}
+use Rattle.resolve_cache.specs.declared.ResolveError.TheVariants.{Invalid as ResolveInvalid, CacheShort, BadSlot, Damaged as ResolveDamaged, OutShort as ResolveShort}
+use Rattle.resolve_cache.specs.Answers.{resolve_refusal, resolve_answer}
 use Rattle.sublist_entries.specs.Inserting.{after_answer}
-use Rattle.subject_rules.specs.Outputs.{Outcome}
+use Rattle.subject_rules.specs.Outputs.{outcome, over}
 use Rattle.sublist_walk_rules.specs.Matching.{match_table}
-use Rattle.router_bytes_rules.specs.Bytes.{words_in, on_bytes}
-use Rattle.router_bytes.specs.Answers.{accepted}
-use Rattle.router_bytes_rules.proofs.Spelled.{front, front_length, length_numbers}
+use Rattle.router_bytes_rules.specs.Bytes.{numbers_in, bytes_of, words_in, on_bytes, match_bytes}
+use Rattle.router_bytes_rules.proofs.Spelled.{length-numbers_in}
+use Rattle.router_bytes_rules.proofs.Limits.{match_taken}
 
--- a refusal of a text is no 0
-pub text-refused : (e : SubjectError) → accepted (refusal e) ≡ false
-text-refused e = ap accepted (refused_stands (Refused e) e (answer 1 []) refl) ∙ go (refusal e)
+-- a refused match leaves what was there
+pub refused : (e : MatchError) (new old : List ℕ) → old ≡ after_answer (match_refusal e) new old
+refused (Invalid e) new old = sym (ap (λ a. after_answer a new old) (refused_stands (Err e) e (answer 1 []) refl) ∙ go (refusal e))
   where
-    go : (a : Answer) → accepted (when_accepted a (answer 1 [])) ≡ false
+    go : (a : Answer) → after_answer (when_accepted a (answer 1 [])) new old ≡ old
     go (answer zero values) = refl
     go (answer (suc k) values) = refl
+refused Damaged new old = refl
+refused (OutShort needed) new old = refl
 
--- an accepted call leaves the new list, a refused one the old; t is what the test of the answer gave
-pub wrote : (a : Answer) {t : Bool} → t ≡ accepted a → t ≡ true → (new old : List ℕ) → new ≡ after_answer a new old
-wrote (answer zero values) e y new old = refl
-wrote (answer (suc k) values) e y new old = absurd (true≢false (sym y ∙ e))
+-- a refused resolve too; an accepted one leaves the new list
+refused_resolve : (e : ResolveError) (new old : List ℕ) → old ≡ after_answer (resolve_refusal e) new old
+refused_resolve (ResolveInvalid e) new old = refused (Invalid e) new old
+refused_resolve CacheShort new old = refl
+refused_resolve BadSlot new old = refl
+refused_resolve ResolveDamaged new old = refl
+refused_resolve (ResolveShort needed) new old = refl
 
-pub stayed : (a : Answer) {t : Bool} → t ≡ accepted a → t ≡ false → (new old : List ℕ) → old ≡ after_answer a new old
-stayed (answer zero values) e n new old = absurd (true≢false (sym e ∙ n))
-stayed (answer (suc k) values) e n new old = refl
+pub wrote : (a : Result ListPlace ResolveError) → is_ok a ≡ true → (new old : List ℕ) → new ≡ after_answer (resolve_answer a) new old
+wrote (Ok (Kept from count)) y new old = refl
+wrote (Ok (Walked count)) y new old = refl
+wrote (Err e) y new old = absurd (false≢true y)
 
--- a part of m elements, by its end
-pub part-is : (l : List ℕ) (n m : ℕ) → take (n + m - n) (drop n l) ≡ take m (drop n l)
-part-is l n m = let e : n + m - n ≡ m = omega arith in ap (λ (k : ℕ). take k (drop n l)) e
+pub stayed : (a : Result ListPlace ResolveError) → is_ok a ≡ false → (new old : List ℕ) → old ≡ after_answer (resolve_answer a) new old
+stayed (Ok place) n new old = absurd (false≢true (sym n))
+stayed (Err e) n new old = refused_resolve e new old
 
--- n words of the bytes nb were read into z, and then m words of the bytes tb into the part behind them, which was p and is q
-module _ (nb tb z ws p q rest : List ℕ) (n m : ℕ) (count : n ≡ length nb / 4) (loaded : ws ≡ words_in nb ++ drop n z) (count' : m ≡ length tb / 4) (loaded' : q ≡ words_in tb ++ drop m p) where
-  pub first_part : take n (take n ws ++ (q ++ rest)) ≡ words_in nb
-  first_part = take_at (take n ws) (q ++ rest) n (front_length 4 nb z ws n count loaded) ∙ front 4 nb z ws n count loaded
+-- as many numbers as bytes hold fit over them
+pub fit : (width : ℕ) (bytes was now : List ℕ) → was ≡ numbers_in width bytes → length now ≡ length was → length now * width ≤ length bytes
+fit width bytes was now e long =
+    let count : length now ≡ length bytes / width = long ∙ ap length e ∙ length-numbers_in width bytes in
+    rw count (div-mul-le_self (length bytes) width)
 
-  pub second-part : take m (drop n (take n ws ++ (q ++ rest))) ≡ words_in tb
-  second-part =
-      ap (take m) (drop_at (take n ws) (q ++ rest) n (front_length 4 nb z ws n count loaded))
-      ∙ ap (λ (l : List ℕ). take m (l ++ rest)) loaded'
-      ∙ ap (take m) (append_assoc (words_in tb) (drop m p) rest)
-      ∙ take_at (words_in tb) (drop m p ++ rest) m (length_numbers 4 tb p ∙ sym count')
-
--- a match on equal words
-pub same_match : (o : Outcome) (nodes targets : ℕ) (subject ob a a' t t' out out' : List ℕ) → a ≡ a' → t ≡ t' → out ≡ out' → o ≡ on_bytes (match_table nodes targets a t subject out) ob → o ≡ on_bytes (match_table nodes targets a' t' subject out') ob
-same_match o nodes targets subject ob a a' t t' out out' e f g p = rw (sym e, sym f, sym g) p
+module _ (n m : ℕ) (nodes targets subject out : List ℕ) (small : length nodes + length targets + length out ≤ 65536) where
+  pub matched : (a : Answer) (words node_words target_words out_words bytes : List ℕ)
+      → node_words ≡ words_in nodes → target_words ≡ words_in targets → out_words ≡ words_in out
+      → outcome a words ≡ match_table n m node_words target_words subject out_words
+      → bytes ≡ after_answer a (over (bytes_of 4 words) out) out
+      → outcome a bytes ≡ match_bytes n m nodes targets subject out
+  matched a words node_words target_words out_words bytes e f g found left =
+      ap (outcome a) left
+      ∙ ap (λ o. on_bytes o out) (found ∙ rw (e, f, g))
+      ∙ sym (match_taken n m nodes targets subject out small)

@@ -1,4 +1,3 @@
 -- Laws of copies of areas, and of the two calls on them.
-pub mod Counting
 pub mod Copies
 pub mod Resolving

@@ -1,5 +1,7 @@
 -- Numbers as bytes, lowest byte first; and the match and the resolve on areas of bytes.
-use Rattle.std.specs.Prelude.{ℕ, zero, suc, ◌+◌, ◌*◌, ◌/◌, ◌%◌, List, [], ◌∷◌, ◌++◌, ltb, length, take, drop}
+use Rattle.std.specs.Prelude.{ℕ, zero, suc, ◌+◌, ◌*◌, ◌/◌, ◌%◌, List, [], ◌∷◌, ltb, length, map}
+use Rattle.std.specs.List.{flat_map}
+use Rattle.std.specs.Simd.{first_chunks}
 use Rattle.subject_rules.specs.Choice.{pick}
 use Rattle.subject_rules.specs.Answers.{answer}
 use Rattle.sublist_entries.specs.Inserting.{after_answer}
@@ -24,19 +26,13 @@ abbrev pub spelling : ℕ → ℕ → List ℕ
 spelling zero n = []
 spelling (suc width) n = n % 256 ∷ spelling width (n / 256)
 
--- the list of f 0, f 1, .. f (n - 1)
-unfoldable pub tabulate : ℕ → (ℕ → ℕ) → List ℕ
-tabulate zero f = []
-tabulate (suc n) f = f 0 ∷ tabulate n (λ (k : ℕ). f (suc k))
-
 -- the numbers that bytes hold, so many bytes a number: every whole one
-unfoldable pub numbers_in : ℕ → List ℕ → List ℕ
-numbers_in width bytes = tabulate (length bytes / width) (λ (k : ℕ). spelled (take width (drop (k * width) bytes)))
+abbrev pub numbers_in : ℕ → List ℕ → List ℕ
+numbers_in width bytes = map spelled (first_chunks width (length bytes / width) bytes)
 
 -- the bytes of numbers
 abbrev pub bytes_of : ℕ → List ℕ → List ℕ
-bytes_of width [] = []
-bytes_of width (n ∷ ns) = spelling width n ++ bytes_of width ns
+bytes_of width ns = flat_map (spelling width) ns
 
 -- a word takes four bytes, a number of `stamps` eight
 abbrev pub words_in : List ℕ → List ℕ

@@ -4,15 +4,16 @@ ghost use Rattle.sublist_snapshot.specs.Snapshot.{make, make_empty, store_in, ma
 ghost use Rattle.resolve_cache_rules.specs.Cache.{with_capacity, clear, resolve};
 ghost use Rattle.resolve_cache_rules.specs.Answers.{lent};
 ghost use Rattle.binding.specs.Verdict.{single_home, resolve_single_home, resolve_single_home_cached};
-ghost use Rattle.router_words.specs.Words.{Says, Writes, table_of, snapshot_of, cache_of, SaysMadeCache, verdict_answer};
+ghost use Rattle.router_words.specs.Words.{Says, Writes, table_of, snapshot_of, cache_of, SaysMadeCache};
+ghost use Rattle.router_words.specs.Words.{verdict_answer};
 ghost use Rattle.whole_move_rules.specs.Move.{spans_in, whole_move};
 ghost use Rattle.router_words.specs.Words.{answer_in, cache_in, Makes, Stores, Resolves, Judges, JudgesCached, Moves};
 ghost use Rattle.router_bytes_rules.specs.Bytes.{resolve_bytes};
 ghost use Rattle.router_bytes.specs.Answers.{bytes_answer};
 
-use resolve_cache::{Resolved, resolve};
+use resolve_cache::resolve;
 use resolve_cache_rules::ResolveCache;
-use router_bytes::{BytesAnswer, BytesResolved};
+use router_bytes::{BytesError, BytesResolved};
 use router_words::{
     CAnswer, CCache, CMadeCache, CMadeSnapshot, CMove, CResolved, CSnapshot, CStored, CVerdict,
 };
@@ -37,14 +38,14 @@ pub fn router_snapshot_new(
         targets,
         generation: Generation(generation),
     };
-    router_words::to_c_made(Snapshot::new(table, node_words, target_words, area))
+    Snapshot::new(table, node_words, target_words, area).into()
 }
 
 // A snapshot of the table of no entries: its state, or why not.
 pub fn router_snapshot_empty(area: &mut [u32]) -> CMadeSnapshot
     ensures { Makes result area.new (make_empty area.old) }
 {
-    router_words::to_c_made(Snapshot::empty(area))
+    Snapshot::empty(area).into()
 }
 
 // A table takes the place of the standing one, stamped with the counter; the generation that build gave it is not used.
@@ -61,13 +62,13 @@ pub fn router_store(
         (store_in (snapshot_of snapshot) area.old
         (table_of nodes targets generation node_words.now target_words.now)) }
 {
-    let standing = router_words::from_c_snapshot(snapshot);
+    let standing = Snapshot::from(snapshot);
     let table = Sublist {
         nodes,
         targets,
         generation: Generation(generation),
     };
-    router_words::to_c_stored(standing.store(table, node_words, target_words, area))
+    standing.store(table, node_words, target_words, area).into()
 }
 
 // The targets that a subject matches in the standing table, written over the first places of the output.
@@ -81,23 +82,23 @@ pub fn router_snapshot_match(
     ensures { Writes result out.new
         (match_in (snapshot_of snapshot) area.now subject.now out.old) }
 {
-    let standing = router_words::from_c_snapshot(snapshot);
-    router_words::to_c_snapshot_match(standing.match_into(area, subject, out))
+    let standing = Snapshot::from(snapshot);
+    standing.match_into(area, subject, out).into()
 }
 
 // A fresh cache of so many slots in the lent areas, a stamp, 260 bytes and 16 targets a slot, or why not.
 pub fn router_cache_new(capacity: usize, stamps: &[u64], keys: &[u8], kept: &[u32]) -> CMadeCache
     ensures { SaysMadeCache result (with_capacity capacity (lent stamps.now keys.now kept.now)) }
 {
-    router_words::to_c_made_cache(ResolveCache::with_capacity(capacity, stamps, keys, kept))
+    ResolveCache::with_capacity(capacity, stamps, keys, kept).into()
 }
 
 // The cache emptied; generation and walks remain.
 pub fn router_cache_clear(cache: CCache) -> CCache
     ensures { cache_of result ≡ clear (cache_of cache) }
 {
-    let own = router_words::from_c_cache(cache);
-    router_words::to_c_cache(own.clear())
+    let own = ResolveCache::from(cache);
+    own.clear().into()
 }
 
 // The targets of a subject, from the cache or by a walk of the standing table.
@@ -116,22 +117,22 @@ pub fn router_resolve(
         (resolve (cache_of cache) (lent stamps.old keys.old kept.old)
         (snapshot_of snapshot) area.now subject.now out.old) }
 {
-    let own = router_words::from_c_cache(cache);
-    let standing = router_words::from_c_snapshot(snapshot);
-    router_words::to_c_resolved(resolve(own, stamps, keys, kept, standing, area, subject, out))
+    let own = ResolveCache::from(cache);
+    let standing = Snapshot::from(snapshot);
+    resolve(own, stamps, keys, kept, standing, area, subject, out).into()
 }
 
 // A resolve on bytes: what the resolve on the copies tells, or 99; then the cache.
-fn to_c_bytes_resolved(r: BytesResolved) -> CResolved
+fn told(r: BytesResolved) -> CResolved
     ensures { Says (answer_in result) (bytes_answer r.answer)
         × (cache_in result ≡ r.cache) }
 {
-    let cache = r.cache;
-    let told = r.answer;
-    match told {
-        BytesAnswer::Told(answer) => router_words::to_c_resolved(Resolved { cache, answer }),
-        BytesAnswer::CopyFull => router_words::with_cache(router_words::plain(99), cache),
-    }
+    let answer = match r.answer {
+        Ok(place) => CAnswer::from(Ok(place)),
+        Err(BytesError::CopyFull) => CAnswer::new(99, &[]),
+        Err(BytesError::Refused(e)) => e.into(),
+    };
+    CResolved::new(answer, r.cache)
 }
 
 // The resolve on areas of bytes, lowest byte of a number first; whole numbers count.
@@ -151,17 +152,19 @@ pub fn router_resolve_bytes(
         (resolve_bytes (cache_of cache) (lent stamps.old keys.old kept.old)
         (snapshot_of snapshot) area.now subject.now out.old) }
 {
-    let own = router_words::from_c_cache(cache);
-    let standing = router_words::from_c_snapshot(snapshot);
-    let told = router_bytes::resolve_bytes(own, stamps, keys, kept, standing, area, subject, out);
-    to_c_bytes_resolved(told)
+    let own = ResolveCache::from(cache);
+    let standing = Snapshot::from(snapshot);
+    let resolved = router_bytes::resolve_bytes(
+        own, stamps, keys, kept, standing, area, subject, out,
+    );
+    told(resolved)
 }
 
 // The verdict on a list.
 pub fn router_single_home(list: &[u32]) -> CAnswer
     ensures { Says result (verdict_answer (single_home list.now) []) }
 {
-    router_words::to_c_resolution(binding::single_home(list))
+    binding::single_home(list).into()
 }
 
 // The verdict on the list that a match through the snapshot writes over the first places of the output, or why not.
@@ -174,8 +177,8 @@ pub fn router_resolve_single_home(
     ensures { Judges result out.new
         (resolve_single_home (snapshot_of snapshot) area.now subject.now out.old) }
 {
-    let standing = router_words::from_c_snapshot(snapshot);
-    router_words::to_c_single_home(binding::resolve_single_home(standing, area, subject, out))
+    let standing = Snapshot::from(snapshot);
+    binding::resolve_single_home(standing, area, subject, out).into()
 }
 
 // The verdict on the list that a resolve hands back, or why not; then the cache afterwards.
@@ -193,11 +196,11 @@ pub fn router_resolve_single_home_cached(
         (resolve_single_home_cached (cache_of cache) (lent stamps.old keys.old kept.old)
         (snapshot_of snapshot) area.now subject.now out.old) }
 {
-    let own = router_words::from_c_cache(cache);
-    let standing = router_words::from_c_snapshot(snapshot);
-    router_words::to_c_cached_resolution(binding::resolve_single_home_cached(
+    let own = ResolveCache::from(cache);
+    let standing = Snapshot::from(snapshot);
+    binding::resolve_single_home_cached(
         own, stamps, keys, kept, standing, area, subject, out,
-    ))
+    ).into()
 }
 
 // Up to 64 subjects routed together by the standing table; two numbers a subject say where it lies in the bytes, start
@@ -214,6 +217,6 @@ pub fn router_whole_move(
         (whole_move (snapshot_of snapshot) area.now bytes.now (spans_in spans.now)
         out.old) }
 {
-    let standing = router_words::from_c_snapshot(snapshot);
-    router_words::to_c_move(whole_move::whole_move(standing, area, bytes, spans, out))
+    let standing = Snapshot::from(snapshot);
+    whole_move::whole_move(standing, area, bytes, spans, out).into()
 }

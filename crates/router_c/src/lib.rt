@@ -1,5 +1,6 @@
 // The C calls of the router, on numbers and slices. Every call takes any numbers and bytes and asks nothing more.
 // `router_c_c` exports them to C.
+// Kept: the C interface lends each area and each count by a parameter of its own.
 // Texts, texts made for a bench, lists, tables, and what a cabinet keeps: the snapshot and the cache.
 #![tactic(auto)]
 

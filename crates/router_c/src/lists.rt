@@ -20,9 +20,7 @@ pub fn router_insert(
         pattern.now target) }
 {
     let list = ListState { entries, used };
-    router_words::to_c_inserted(sublist_entries::insert_numbers(
-        list, words, store, pattern, target,
-    ))
+    sublist_entries::insert_numbers(list, words, store, pattern, target).into()
 }
 
 // The table of a list, all its whole entries: node count, worst case and generation, or why not.
@@ -37,5 +35,5 @@ pub fn router_build(
         (build_into (entries_in words.now) store.now
         nodes.old targets.old generation) }
 {
-    router_words::to_c_built(sublist::build_from_numbers(words, store, nodes, targets, generation))
+    sublist::build_from_numbers(words, store, nodes, targets, generation).into()
 }

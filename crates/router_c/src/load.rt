@@ -18,12 +18,12 @@ pub fn router_draw(state: u64) -> u64
 pub fn router_make_pattern(state: u64, out: &mut [u8]) -> CMadeText
     ensures { MakesText result out.new (make true state out.old) }
 {
-    router_words::to_c_made_text(load_maker::make_pattern(state, out))
+    load_maker::make_pattern(state, out).into()
 }
 
 // A subject, in the same way.
 pub fn router_make_subject(state: u64, out: &mut [u8]) -> CMadeText
     ensures { MakesText result out.new (make false state out.old) }
 {
-    router_words::to_c_made_text(load_maker::make_subject(state, out))
+    load_maker::make_subject(state, out).into()
 }

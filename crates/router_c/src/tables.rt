@@ -4,8 +4,9 @@ ghost use Rattle.router_words.specs.Words.{Says, Writes};
 ghost use Rattle.router_bytes_rules.specs.Bytes.{match_bytes};
 ghost use Rattle.router_bytes.specs.Answers.{bytes_match_answer};
 
-use router_bytes::BytesMatch;
+use router_bytes::BytesError;
 use router_words::CAnswer;
+use sublist_walk::{MatchError, Table, TableMatch, match_table};
 
 // The targets that a subject matches in a table, written over the first places of the output.
 // The answer has their number and the peak, or why not.
@@ -21,23 +22,23 @@ pub fn router_match(
         (match_table nodes targets node_words.now target_words.now
         subject.now out.old) }
 {
-    router_words::to_c_table_match(sublist_walk::match_table(
+    let table = Table {
         nodes,
         targets,
         node_words,
         target_words,
-        subject,
-        out,
-    ))
+    };
+    match_table(&table, subject, out).into()
 }
 
 // A match on bytes: what the match on the copies tells, or 99.
-fn to_c_bytes_match(m: BytesMatch) -> CAnswer
+fn told(m: Result<TableMatch, BytesError<MatchError>>) -> CAnswer
     ensures { Says result (bytes_match_answer m) }
 {
     match m {
-        BytesMatch::Told(told) => router_words::to_c_table_match(told),
-        BytesMatch::CopyFull => router_words::plain(99),
+        Ok(found) => CAnswer::from(Ok(found)),
+        Err(BytesError::CopyFull) => CAnswer::new(99, &[]),
+        Err(BytesError::Refused(e)) => e.into(),
     }
 }
 
@@ -55,12 +56,5 @@ pub fn router_match_bytes(
         (match_bytes nodes targets node_bytes.now target_bytes.now
         subject.now out_bytes.old) }
 {
-    to_c_bytes_match(router_bytes::match_bytes(
-        nodes,
-        targets,
-        node_bytes,
-        target_bytes,
-        subject,
-        out_bytes,
-    ))
+    told(router_bytes::match_bytes(nodes, targets, node_bytes, target_bytes, subject, out_bytes))
 }

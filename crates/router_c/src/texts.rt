@@ -15,21 +15,21 @@ use router_words::CAnswer;
 pub fn router_parse_literal(text: &[u8]) -> CAnswer
     ensures { Says result (grammar false text.now) }
 {
-    router_words::to_c_parsed(subject::parse_literal(text))
+    subject::parse_literal(text).into()
 }
 
 // A text as a pattern: its token count, or why it is refused.
 pub fn router_parse(text: &[u8]) -> CAnswer
     ensures { Says result (grammar true text.now) }
 {
-    router_words::to_c_parsed(subject::parse(text))
+    subject::parse(text).into()
 }
 
 // Whether a pattern matches a subject, or why one of the two is refused.
 pub fn router_matches(pattern: &[u8], subject: &[u8]) -> CAnswer
     ensures { Says result (matching pattern.now subject.now) }
 {
-    router_words::to_c_matched(subject::matches(pattern, subject))
+    subject::matches(pattern, subject).into()
 }
 
 // A shortest subject that two patterns both match, written over the first places of the output: 1 and its length; or 0.
@@ -38,7 +38,7 @@ pub fn router_crossing(first: &[u8], second: &[u8], out: &mut [u8]) -> CAnswer
     ensures { Writes result out.new
         (crossing first.now second.now out.old) }
 {
-    router_words::to_c_crossed(crossing::crossing(first, second, out))
+    crossing::crossing(first, second, out).into()
 }
 
 // The hash of a token.
@@ -59,12 +59,12 @@ pub fn router_depth(text: &[u8]) -> u64
 pub fn router_has_tail_wildcard(text: &[u8]) -> u64
     ensures { result ≡ bit (ends_in_tail (tokens text.now)) }
 {
-    subject::has_tail_wildcard(text) as u64
+    u64::from(subject::has_tail_wildcard(text))
 }
 
 // Where token n of a text lies, counted from 0: 1, its first position and the one behind its last; or 0.
 pub fn router_nth_token(text: &[u8], n: usize) -> CAnswer
     ensures { Says result (placed (place_in 0 (tokens text.now) n)) }
 {
-    router_words::to_c_token(subject::nth_token(text, n))
+    subject::nth_token(text, n).into()
 }

@@ -4,7 +4,8 @@ ghost use Rattle.sublist_snapshot.specs.Snapshot.{make, make_empty, store_in, ma
 ghost use Rattle.resolve_cache_rules.specs.Cache.{with_capacity, clear, resolve};
 ghost use Rattle.resolve_cache_rules.specs.Answers.{lent};
 ghost use Rattle.binding.specs.Verdict.{single_home, resolve_single_home, resolve_single_home_cached};
-ghost use Rattle.router_words.specs.Words.{Says, Writes, table_of, snapshot_of, cache_of, SaysMadeCache, verdict_answer};
+ghost use Rattle.router_words.specs.Words.{Says, Writes, table_of, snapshot_of, cache_of, SaysMadeCache};
+ghost use Rattle.router_words.specs.Words.{verdict_answer};
 ghost use Rattle.whole_move_rules.specs.Move.{spans_in, whole_move};
 ghost use Rattle.router_words.specs.Words.{Makes, Stores, Resolves, Judges, JudgesCached, Moves};
 ghost use Rattle.router_bytes_rules.specs.Bytes.{resolve_bytes};

@@ -205,10 +205,6 @@ moved_answer (routed count) = answer 0 (0 ∷ count ∷ [])
 moved_answer (stopped place verdict) = answer 0 (1 ∷ place ∷ verdict_numbers verdict)
 moved_answer (not_moved a) = a
 
--- all but the last number
-abbrev pub answer_front : CMove → CAnswer
-answer_front r = record { number = r.number; first = r.first; second = r.second; third = r.third }
-
 pub record SaysMove (r : CMove) (a : Answer) : Type 0 where
   pub number : r.number ≡ number_of a
   pub first : r.first ≡ value_of a 0

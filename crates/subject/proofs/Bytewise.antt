@@ -3,7 +3,11 @@ use Rattle.std.proofs.Common.{◌≡◌, ℕ, zero, suc, ◌+◌, ◌*◌, ◌^�
 use borrow.Author.Tests.{eqb-false}
 use Rattle.subject_rules.specs.Choice.{and}
 use Rattle.subject.specs.Words.{spell}
-use Rattle.subject.specs.Spelling.{Bytes}
+
+-- each is a byte
+abbrev pub Bytes : List ℕ → Type 0
+Bytes [] = Unit {0}
+Bytes (b ∷ bs) = (b < 256) × Bytes bs
 
 -- each byte gives a byte
 abbrev pub Small : (ℕ → ℕ) → Type 0

@@ -1,10 +1,14 @@
 -- The first dot of eight bytes by their marks.
-use Rattle.std.proofs.Common.{◌≡◌, ℕ, zero, suc, ◌+◌, ◌*◌, ◌/◌, ◌%◌, ◌<◌, ◌≤◌, Bool, true, false, List, [], ◌∷◌, length, take, drop, sym, refl, ap, ◌∙◌, arith, length-drop, length-take, drop-drop}
+use Rattle.std.proofs.Common.{◌≡◌, ◌==◌, ℕ, zero, suc, ◌+◌, ◌*◌, ◌/◌, ◌%◌, ◌<◌, ◌≤◌, Bool, true, false, not, cond, ltb, List, [], ◌∷◌, length, get_or, take, drop, Some, None, unwrap_or, sym, refl, ap, ◌∙◌, arith, drop-drop, ltb-false}
+use Rattle.std.specs.List.{position, position_or_len}
+use Rattle.std.specs.Simd.{first_chunks}
 use lib.Count.{count_trailing_zeros}
 use Rattle.subject_rules.specs.Choice.{pick}
 use Rattle.subject.specs.Words.{spell}
 use Rattle.subject.specs.Spelling.{is_dot, mark, marks}
-use Rattle.subject.specs.Reading.{until_dot, dot_from}
+use Rattle.subject.specs.Reading.{until_dot}
+use Rattle.subject.proofs.Chunks.{word_is, word_room, word_length}
+use Rattle.subject.proofs.Positions.{until_within}
 
 -- one binary digit
 even : (k m n : ℕ) → n ≡ 2 * m → count_trailing_zeros (suc k) n ≡ suc (count_trailing_zeros k m)
@@ -106,22 +110,53 @@ until_behind (suc n) (x ∷ xs) l e = go (is_dot x) e (λ k. until_behind n xs (
     go true f h = absurd (omega (arith, f))
     go false f h = omega (arith, h (omega (arith, f)))
 
--- the search from a place with eight bytes more, m being their marks
-module _ (text : List ℕ) (at : ℕ) (h : at + 8 ≤ length text) (m : ℕ) (e : m ≡ spell (marks is_dot (take 8 (drop at text)))) where
-  eight : length (take 8 (drop at text)) ≡ 8
-  eight = omega (arith, length-take 8 (drop at text), length-drop at text)
+-- the search in a word of a text, whose marks are m, where the words before it have no dot
+module _ (text : List ℕ) (ws : List (List ℕ)) (front : ws ≡ first_chunks 8 (length text / 8) text) (many : length ws ≡ length text / 8) (i : ℕ) where
+  module _ (h : i < length ws) (m : ℕ) (e : m ≡ spell (marks is_dot (get_or ws i []))) (passed : until_dot text ≡ 8 * i + until_dot (drop (8 * i) text)) where
+    word : get_or ws i [] ≡ take 8 (drop (8 * i) text)
+    word = word_is text ws front many i h
 
-  -- a mark: the first dot is there
-  pub dot_marked : (m ≡ 0 → ⊥) → at + count_trailing_zeros 64 m / 8 ≡ dot_from text at
-  unfolding dot_from
-  dot_marked n =
-      let k : count_trailing_zeros 64 m / 8 ≡ until_dot (take 8 (drop at text)) = rw e (first_of_eight (take 8 (drop at text)) eight) in
-      ap (λ (u : ℕ). at + u) (k ∙ sym (until_front 8 (drop at text) (some_mark (take 8 (drop at text)) (rw (← e) n))))
+    marks-are : m ≡ spell (marks is_dot (take 8 (drop (8 * i) text)))
+    marks-are = rw (← word) e
 
-  -- none: it is behind them
-  pub dot_unmarked : m ≡ 0 → dot_from text at ≡ dot_from text (at + 8)
-  unfolding dot_from
-  dot_unmarked z =
-      let k : until_dot (take 8 (drop at text)) ≡ 8 = no_mark (take 8 (drop at text)) (sym e ∙ z) ∙ eight in
-      let u = until_behind 8 (drop at text) (omega (arith, length-drop at text)) k in
-      rw (u, drop-drop 8 at text) (omega arith)
+    eight : length (take 8 (drop (8 * i) text)) ≡ 8
+    eight = word_length text ws front many i h
+
+    -- a mark: the first dot is there
+    pub dot_marked : (m ≡ 0 → ⊥) → 8 * i + count_trailing_zeros 64 m / 8 ≡ until_dot text
+    dot_marked n =
+        let k : count_trailing_zeros 64 m / 8 ≡ until_dot (take 8 (drop (8 * i) text)) = rw marks-are (first_of_eight (take 8 (drop (8 * i) text)) eight) in
+        let u = until_front 8 (drop (8 * i) text) (some_mark (take 8 (drop (8 * i) text)) (rw (← marks-are) n)) in
+        omega (arith, passed, k, u)
+
+    -- none: it is behind them
+    pub dot_unmarked : m ≡ 0 → until_dot text ≡ 8 * (i + 1) + until_dot (drop (8 * (i + 1)) text)
+    dot_unmarked z =
+        let k : until_dot (take 8 (drop (8 * i) text)) ≡ 8 = no_mark (take 8 (drop (8 * i) text)) (sym marks-are ∙ z) ∙ eight in
+        let u = until_behind 8 (drop (8 * i) text) (word_room text ws front many i h) k in
+        let d : drop 8 (drop (8 * i) text) ≡ drop (8 * (i + 1)) text = drop-drop 8 (8 * i) text ∙ ap (λ (n : ℕ). drop n text) (omega arith) in
+        omega (arith, passed, u, ap until_dot d)
+
+  -- none in any: it is in the rest
+  pub dot_in_rest : (n : ℕ) → n ≡ i → i ≡ length ws → (rest : List ℕ) → rest ≡ drop (length text / 8 * 8) text → (r : ℕ) → r ≡ until_dot rest
+      → until_dot text ≡ 8 * i + until_dot (drop (8 * i) text) → 8 * n + r ≡ until_dot text
+  dot_in_rest n e all rest back r found passed =
+      let d : length text / 8 * 8 ≡ 8 * i = omega arith in
+      omega (arith, passed, found, ap until_dot (back ∙ ap (λ (k : ℕ). drop k text) d))
+
+-- the first dot by its index, all where there is none
+until_first : (bs : List ℕ) → position_or_len (λ b. b == 0x2e) bs ≡ until_dot bs
+until_first [] = refl
+until_first (b ∷ bs) = go (is_dot b) (until_first bs)
+  where
+    go : (dot : Bool) → position_or_len (λ b. b == 0x2e) bs ≡ until_dot bs → cond (not dot) (1 + position_or_len (λ b. b == 0x2e) bs) 0 ≡ pick dot 0 (suc (until_dot bs))
+    go true e = refl
+    go false e = omega (arith, e)
+
+pub until_position : (bs : List ℕ) → unwrap_or (position (λ b. b == 0x2e) bs) (length bs) ≡ until_dot bs
+until_position bs = go (ltb (position_or_len (λ b. b == 0x2e) bs) (length bs)) refl
+  where
+    go : (t : Bool) → ltb (position_or_len (λ b. b == 0x2e) bs) (length bs) ≡ t
+        → unwrap_or (cond t (Some (position_or_len (λ b. b == 0x2e) bs)) None) (length bs) ≡ until_dot bs
+    go true l = until_first bs
+    go false l = omega (arith, ltb-false _ _ l, until_first bs, until_within bs)

@@ -2,8 +2,8 @@
 use Rattle.std.proofs.Common.{◌≡◌, ℕ, ◌+◌, ◌*◌, ◌^◌, ◌<◌, Bool, true, eqb, List, [], ◌∷◌, map, length, replicate, sym, refl, ap, ◌∙◌, arith, eqb-true}
 use lib.Bits.{bit_and, bit_or, bit_xor, and_block, or_block, xor_block, and_lt, or_lt, xor_lt, and_le_r}
 use Rattle.subject.specs.Words.{spell}
-use Rattle.subject.specs.Spelling.{Bytes, is_dot, is_barred, mark, marks}
-use Rattle.subject.proofs.Bytewise.{Small, bytewise, sums, up_to, tested}
+use Rattle.subject.specs.Spelling.{is_dot, is_barred, mark, marks}
+use Rattle.subject.proofs.Bytewise.{Bytes, Small, bytewise, sums, up_to, tested}
 use Rattle.subject.proofs.Spelled.{Eight}
 
 -- the word w has f b in place of each byte b
@@ -50,9 +50,6 @@ themselves (b ∷ bs) = ap (λ (l : List ℕ). b ∷ l) (themselves bs)
 -- no sum leaves the word
 pub other_fits : (w c : ℕ) → c < 2 ^ 63 → bit_xor (bit_and w 0x7f7f7f7f7f7f7f7f) c + 0x7f7f7f7f7f7f7f7f < 2 ^ 64
 other_fits w c l = omega (arith, xor_lt 63 (bit_and w 0x7f7f7f7f7f7f7f7f) c (omega (arith, and_le_r w 0x7f7f7f7f7f7f7f7f)) l)
-
-pub shown-fits : (w : ℕ) → bit_and w 0x7f7f7f7f7f7f7f7f + 0x6060606060606060 < 2 ^ 64
-shown-fits w = omega (arith, and_le_r w 0x7f7f7f7f7f7f7f7f)
 
 module _ {bs : List ℕ} {w : ℕ} (t : Eight bs w) where
   -- the bytes themselves, and the same byte eight times

@@ -1,10 +1,9 @@
 -- Where token n of a text stands: a reader that has passed n tokens finds it there, and the text has its bytes there.
-use Rattle.std.proofs.Common.{◌≡◌, ℕ, zero, suc, ◌+◌, ◌-◌, ◌<◌, ◌≤◌, Bool, true, false, leb, List, [], ◌∷◌, length, get_or, take, drop, refl, ap, ◌∙◌, add-one, arith, length-drop, length-take, le-leb, leb-false, leb-true}
+use Rattle.std.proofs.Common.{◌≡◌, ℕ, zero, suc, ◌+◌, ◌-◌, ◌<◌, ◌≤◌, Bool, true, false, leb, List, [], ◌∷◌, Option, None, Some, length, get_or, take, drop, refl, sym, ap, ◌∙◌, arith, length-drop, length-take, le-leb, leb-false, leb-true}
 use borrow.Author.Tests.{lt-leb}
 use Rattle.subject_rules.specs.Text.{tokens}
-use Rattle.subject.specs.Reading.{dot_from, tokens_from, token_at, past, place_in}
+use Rattle.subject.specs.Reading.{dot_from, tokens_from, part, token_at, past, place_in}
 use Rattle.subject.specs.declared.Token.{Token}
-use Rattle.subject.specs.declared.Token.TheVariants.{Part, End}
 use Rattle.subject.proofs.Positions.{dot_from_lem, dot_within, tokens-start, tokens-next, tokens-end}
 
 -- where a reader stands that has passed n tokens from position `at` on
@@ -18,7 +17,7 @@ passed_first text at zero = refl
 passed_first text at (suc n) = ap (λ (p : ℕ). past (token_at text p) p) (passed_first text at n)
 
 module _ (text : List ℕ) (at : ℕ) (h : at ≤ length text) where
-  pub token_here : token_at text at ≡ Part at (dot_from text at) (dot_from text at + 1)
+  pub token_here : token_at text at ≡ Some (part at (dot_from text at) (dot_from text at + 1))
   unfolding token_at
   token_here = rw (le-leb at (length text) h)
 
@@ -37,7 +36,7 @@ module _ (text : List ℕ) (at : ℕ) (h : at ≤ length text) where
       rw (tokens-next text at h) (ap (λ (end : ℕ). place_in (end + 1) (tokens_from text (dot_from text at + 1)) n) first_ends)
 
 module _ (text : List ℕ) (at : ℕ) (h : length text < at) where
-  pub token_none : token_at text at ≡ End
+  pub token_none : token_at text at ≡ None
   unfolding token_at
   token_none = rw (lt-leb at (length text) h)
 
@@ -51,16 +50,17 @@ pub record Found (text : List ℕ) (at start end next : ℕ) : Type 0 where
   pub moves : (at < next) × (next ≤ length text + 1)
   pub left : tokens_from text at ≡ take (end - start) (drop start text) ∷ tokens_from text next
 
-pub part-found : (text : List ℕ) (at start end next : ℕ) (k : Token) → k ≡ token_at text at → k ≡ Part start end next → Found text at start end next
+pub part-found : (text : List ℕ) (at start end next : ℕ) (k : Option Token) → k ≡ token_at text at → k ≡ Some (part start end next) → Found text at start end next
 part-found text at start end next k e f = go (leb at (length text)) refl
   where
     go : (b : Bool) → leb at (length text) ≡ b → Found text at start end next
     go true g =
         let h = leb-true at (length text) g in
         let t = token_here text at h in
-        let p : at ≡ start = cc in
-        let d : dot_from text at ≡ end = cc in
-        let n : dot_from text at + 1 ≡ next = cc in
+        let same : part start end next ≡ part at (dot_from text at) (dot_from text at + 1) = cc in
+        let p : at ≡ start = sym (ap (λ (k : Token). k.start) same) in
+        let d : dot_from text at ≡ end = sym (ap (λ (k : Token). k.end) same) in
+        let n : dot_from text at + 1 ≡ next = sym (ap (λ (k : Token). k.next) same) in
         let l = dot_from_lem text at in
         let m = dot_within text at h in
         record { within = (omega arith, omega arith); moves = (omega arith, omega arith); left = rw (← p, ← d, ← n) (tokens-next text at h) }
@@ -69,7 +69,7 @@ part-found text at start end next k e f = go (leb at (length text)) refl
         let z : ◌≡◌ {A = ℕ} 0 1 = cc in absurd (omega arith)
 
 -- where none is found, the text has ended
-pub end-found : (text : List ℕ) (at : ℕ) (k : Token) → k ≡ token_at text at → k ≡ End → length text < at
+pub end-found : (text : List ℕ) (at : ℕ) (k : Option Token) → k ≡ token_at text at → k ≡ None → length text < at
 end-found text at k e f = go (leb at (length text)) refl
   where
     go : (b : Bool) → leb at (length text) ≡ b → length text < at
@@ -105,27 +105,23 @@ pub nth_read : (text : List ℕ) (n : ℕ) → token_at text (passed text 0 n) �
 nth_read text n = rw (← tokens-start text, place_read text n 0)
 
 -- past the last token there is none
-place-past : (ts : List (List ℕ)) (at n : ℕ) → length ts ≤ n → place_in at ts n ≡ End
+place-past : (ts : List (List ℕ)) (at n : ℕ) → length ts ≤ n → place_in at ts n ≡ None
 place-past [] at n h = refl
 place-past (t ∷ ts) at zero h = absurd (omega arith)
 place-past (t ∷ ts) at (suc n) h = place-past ts (at + length t + 1) n (omega arith)
 
--- a reader that has passed i tokens and reads one more
-pub passed_on : (text t : List ℕ) (i at next : ℕ) (k : Token) → t ≡ text → at ≡ passed text 0 i → k ≡ token_at t at → next ≡ past k at → next ≡ passed text 0 (i + 1)
-passed_on text t i at next k e f g h = rw add-one (h ∙ rw (g, e, f))
-
--- what it reads is token i
-pub read_at : (text t : List ℕ) (i n at : ℕ) (k : Token) → t ≡ text → at ≡ passed text 0 i → i ≡ n → k ≡ token_at t at → k ≡ place_in 0 (tokens text) n
+-- a reader that has passed i tokens reads token i
+pub read_at : (text t : List ℕ) (i n at : ℕ) (k : Option Token) → t ≡ text → at ≡ passed text 0 i → i ≡ n → k ≡ token_at t at → k ≡ place_in 0 (tokens text) n
 read_at text t i n at k e f same g = g ∙ rw (e, f, same) (nth_read text n)
 
-pub nth_past : (text : List ℕ) (n : ℕ) → length (tokens text) ≤ n → place_in 0 (tokens text) n ≡ End
+pub nth_past : (text : List ℕ) (n : ℕ) → length (tokens text) ≤ n → place_in 0 (tokens text) n ≡ None
 nth_past text n h = place-past (tokens text) 0 n h
 
 -- token n of those from position `at` on has a place within the text, where the text has its bytes
 pub record Placed (text : List ℕ) (at : ℕ) (ts : List (List ℕ)) (n : ℕ) : Type 0 where
   pub start : ℕ
   pub end : ℕ
-  pub place : place_in at ts n ≡ Part start end (end + 1)
+  pub place : place_in at ts n ≡ Some (part start end (end + 1))
   pub within : (start ≤ end) × (end ≤ length text)
   pub bytes : take (end - start) (drop start text) ≡ get_or ts n []
 
@@ -170,11 +166,11 @@ pub nth_placed : (text : List ℕ) (n : ℕ) → n < length (tokens text) → Pl
 nth_placed text n h = rw (tokens-start text) at (placed_from text n 0 (rw (tokens-start text) h))
 
 -- `a.bc.d`: token 1, token 3; the empty text: token 0
-second_token : place_in 0 (tokens (0x61 ∷ 0x2e ∷ 0x62 ∷ 0x63 ∷ 0x2e ∷ 0x64 ∷ [])) 1 ≡ Part 2 4 5
+second_token : place_in 0 (tokens (0x61 ∷ 0x2e ∷ 0x62 ∷ 0x63 ∷ 0x2e ∷ 0x64 ∷ [])) 1 ≡ Some (part 2 4 5)
 second_token = refl
 
-fourth_token : place_in 0 (tokens (0x61 ∷ 0x2e ∷ 0x62 ∷ 0x63 ∷ 0x2e ∷ 0x64 ∷ [])) 3 ≡ End
+fourth_token : place_in 0 (tokens (0x61 ∷ 0x2e ∷ 0x62 ∷ 0x63 ∷ 0x2e ∷ 0x64 ∷ [])) 3 ≡ None
 fourth_token = refl
 
-empty-text : place_in 0 (tokens []) 0 ≡ Part 0 0 1
+empty-text : place_in 0 (tokens []) 0 ≡ Some (part 0 0 1)
 empty-text = refl

@@ -1,11 +1,12 @@
 -- What one pass over a plain text has shown of its bytes and tokens.
-use Rattle.std.proofs.Common.{◌≡◌, ℕ, ◌+◌, ◌<◌, ◌≤◌, Bool, true, false, eqb, ltb, leb, ◌≢◌, List, [], ◌∷◌, length, refl, arith, ltb-false, le-ltb, ne_eqb, leb-false}
+use Rattle.std.proofs.Common.{◌≡◌, ℕ, ◌+◌, ◌<◌, ◌≤◌, Bool, true, false, eqb, ltb, leb, List, [], ◌∷◌, Option, None, Some, length, refl, arith, ltb-false, le-ltb, ne_eqb, leb-false}
 use mathlib.Core.Option.{none}
 use Rattle.subject_rules.specs.Choice.{pick, and, or}
 use Rattle.subject_rules.specs.Text.{cut_at, tokens, is_star, is_tail}
 use Rattle.subject_rules.specs.Grammar.{bad_char, bad_chars}
-use Rattle.subject.specs.Spelling.{Ascii, is_dot, is_barred}
+use Rattle.subject.specs.Spelling.{is_dot, is_barred}
 use Rattle.subject.specs.Plain.{one, plain_from}
+use Rattle.subject.proofs.Sequences.{Ascii}
 
 -- what is known of a byte that is not barred
 pub record Fair (b : ℕ) : Type 0 where
@@ -93,23 +94,23 @@ counted-joined dot n r b bs e m =
     let j = length-joined b (tokens bs) m.left in
     record { left = left-joined dot b (tokens bs) f m.left; count = omega (arith, j, m.count); most = omega (arith, j, m.most); ascii = (omega (arith, f.ascii), m.ascii) }
 
-pub counted : (bs : List ℕ) (dot : Bool) (n : ℕ) → plain_from dot n bs ≢ 0 → Counted dot n (plain_from dot n bs) bs (tokens bs)
-counted [] dot n h = go dot (leb 32 n) refl h
+pub counted : (bs : List ℕ) (dot : Bool) (n r : ℕ) → plain_from dot n bs ≡ Some r → Counted dot n r bs (tokens bs)
+counted [] dot n r h = go dot (leb 32 n) refl h
   where
-    go : (d l : Bool) → leb 32 n ≡ l → pick (or d l) 0 (n + 1) ≢ 0 → Counted d n (pick (or d l) 0 (n + 1)) [] ([] ∷ [])
-    go true l e h = absurd (h refl)
-    go false true e h = absurd (h refl)
-    go false false e h = record { left = (tt, tt); count = refl; most = omega (arith, leb-false 32 n e); ascii = tt }
-counted (b ∷ bs) dot n h = go dot (is_barred b) refl (is_dot b) h (λ k. counted bs (is_dot b) (n + one (is_dot b)) k)
+    go : (d l : Bool) → leb 32 n ≡ l → pick (or d l) None (Some (n + 1)) ≡ Some r → Counted d n r [] ([] ∷ [])
+    go true l e h = let y : ◌≡◌ {A = Option ℕ} None (Some r) = h in cc
+    go false true e h = let y : ◌≡◌ {A = Option ℕ} None (Some r) = h in cc
+    go false false e h = let y : n + 1 ≡ r = cc in record { left = (tt, tt); count = omega (arith, y); most = omega (arith, leb-false 32 n e); ascii = tt }
+counted (b ∷ bs) dot n r h = go dot (is_barred b) refl (is_dot b) h (λ k. counted bs (is_dot b) (n + one (is_dot b)) r k)
   where
-    go : (d o : Bool) → is_barred b ≡ o → (k : Bool) → pick (or o (and d k)) 0 (plain_from k (n + one k) bs) ≢ 0
-        → (plain_from k (n + one k) bs ≢ 0 → Counted k (n + one k) (plain_from k (n + one k) bs) bs (tokens bs))
-        → Counted d n (pick (or o (and d k)) 0 (plain_from k (n + one k) bs)) (b ∷ bs) (cut_at k b (tokens bs))
-    go d true e k h c = absurd (h refl)
-    go true false e true h c = absurd (h refl)
+    go : (d o : Bool) → is_barred b ≡ o → (k : Bool) → pick (or o (and d k)) None (plain_from k (n + one k) bs) ≡ Some r
+        → (plain_from k (n + one k) bs ≡ Some r → Counted k (n + one k) r bs (tokens bs))
+        → Counted d n r (b ∷ bs) (cut_at k b (tokens bs))
+    go d true e k h c = let y : ◌≡◌ {A = Option ℕ} None (Some r) = h in cc
+    go true false e true h c = let y : ◌≡◌ {A = Option ℕ} None (Some r) = h in cc
     go false false e true h c =
         let m = c h in
         let f = fair b e in
         record { left = (tt, left_all (tokens bs) m.left); count = omega (arith, m.count); most = omega (arith, m.most); ascii = (omega (arith, f.ascii), m.ascii) }
-    go true false e false h c = counted-joined true n _ b bs e (c h)
-    go false false e false h c = counted-joined false n _ b bs e (c h)
+    go true false e false h c = counted-joined true n r b bs e (c h)
+    go false false e false h c = counted-joined false n r b bs e (c h)

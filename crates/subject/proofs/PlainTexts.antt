@@ -1,5 +1,5 @@
 -- A plain text is accepted, as a subject and as a pattern, with as many tokens as one pass counts.
-use Rattle.std.proofs.Common.{◌≡◌, ℕ, suc, ◌+◌, ◌≤◌, Bool, true, false, eqb, ◌≢◌, List, [], ◌∷◌, length, refl, ap, ◌∙◌, arith, le-ltb, ne_eqb}
+use Rattle.std.proofs.Common.{◌≡◌, ℕ, suc, ◌+◌, ◌≤◌, Bool, true, false, eqb, List, [], ◌∷◌, Option, None, Some, length, IfSome, refl, sym, ap, ◌∙◌, arith, le-ltb, ne_eqb}
 use mathlib.Core.Option.{none}
 use Rattle.subject_rules.specs.Text.{tokens}
 use Rattle.subject_rules.specs.Answers.{answer}
@@ -19,21 +19,25 @@ check_legals wild ((b ∷ bs) ∷ ts) index l h =
     rw (deep, bad, w.1) (check_legals wild ts (index + 1) l.1 (omega (arith, h)) ∙ ap (λ (n : ℕ). answer 0 (n ∷ [])) (let e : index + 1 + length ts ≡ index + suc (length ts) = omega arith in e))
 
 -- a plain text, by what its pass gives
-pub plain-accepted : (text : List ℕ) (r : ℕ) → r ≡ plain_from true 0 text → length text ≤ 4096 → r ≢ 0 → (wild : Bool) → grammar wild text ≡ answer 0 (r ∷ [])
+pub plain-accepted : (text : List ℕ) (r : ℕ) → plain_from true 0 text ≡ Some r → length text ≤ 4096 → (wild : Bool) → grammar wild text ≡ answer 0 (r ∷ [])
 unfolding grammar
-plain-accepted [] r e l h wild = absurd (h e)
-plain-accepted (b ∷ bs) r e l h wild =
+plain-accepted [] r e l wild = let y : ◌≡◌ {A = Option ℕ} None (Some r) = e in cc
+plain-accepted (b ∷ bs) r e l wild =
     let text = b ∷ bs in
-    let c = counted text true 0 (rw (← e) h) in
-    rw (e, le-ltb 4096 (length text) l, ascii_fine text c.ascii, ne_eqb (length text) 0 (λ z. omega (arith, z)), c.count)
+    let c = counted text true 0 r e in
+    rw (le-ltb 4096 (length text) l, ascii_fine text c.ascii, ne_eqb (length text) 0 (λ z. omega (arith, z)), c.count)
     (check_legals wild (tokens text) 0 (left_all (tokens text) c.left) c.most)
 
+pub accepted_if : (text : List ℕ) (r : Option ℕ) → r ≡ plain_from true 0 text → length text ≤ 4096 → IfSome r (λ n. (wild : Bool) → grammar wild text ≡ answer 0 (n ∷ []))
+accepted_if text None e l = tt
+accepted_if text (Some n) e l = plain-accepted text n (sym e) l
+
 -- `a.b` has two tokens; `.a`, `a.`, `a..b` have an empty one, `*` is barred
-two_tokens : plain_from true 0 (0x61 ∷ 0x2e ∷ 0x62 ∷ []) ≡ 2
+two_tokens : plain_from true 0 (0x61 ∷ 0x2e ∷ 0x62 ∷ []) ≡ Some 2
 two_tokens = refl
 
-empty-tokens : (plain_from true 0 (0x2e ∷ 0x61 ∷ []) ≡ 0) × (plain_from true 0 (0x61 ∷ 0x2e ∷ []) ≡ 0) × (plain_from true 0 (0x61 ∷ 0x2e ∷ 0x2e ∷ 0x62 ∷ []) ≡ 0)
+empty-tokens : (plain_from true 0 (0x2e ∷ 0x61 ∷ []) ≡ None) × (plain_from true 0 (0x61 ∷ 0x2e ∷ []) ≡ None) × (plain_from true 0 (0x61 ∷ 0x2e ∷ 0x2e ∷ 0x62 ∷ []) ≡ None)
 empty-tokens = (refl, refl, refl)
 
-star_barred : plain_from true 0 (0x2a ∷ []) ≡ 0
+star_barred : plain_from true 0 (0x2a ∷ []) ≡ None
 star_barred = refl

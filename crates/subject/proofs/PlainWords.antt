@@ -1,11 +1,13 @@
--- The pass over a plain text by eights: what the marks of eight bytes say, and what the pass knows behind i bytes.
-use Rattle.std.proofs.Common.{◌≡◌, ℕ, zero, suc, ◌+◌, ◌*◌, ◌/◌, ◌%◌, ◌^◌, ◌<◌, ◌≤◌, Bool, true, false, not, eqb, List, [], ◌∷◌, ◌++◌, length, take, drop, sym, refl, ap, ◌∙◌, arith, length-drop, take-append-drop, length-take, take-add}
+-- The pass over a plain text by words of eight bytes: what the marks of one say, and what the pass knows behind i bytes.
+use Rattle.std.proofs.Common.{◌≡◌, ℕ, zero, suc, ◌+◌, ◌*◌, ◌/◌, ◌%◌, ◌^◌, ◌<◌, ◌≤◌, Bool, true, false, not, eqb, List, [], ◌∷◌, ◌++◌, length, get_or, take, drop, sym, refl, ap, ◌∙◌, arith, take-append-drop, length-take, take-add}
+use Rattle.std.specs.Simd.{first_chunks}
 use lib.Bits.{bit_and, bit_or, and_block, and_comm, and_zero_r, and_le_l, and_le_r, or_add_and}
 use Rattle.subject_rules.specs.Choice.{and, or}
 use Rattle.subject.specs.Words.{spell}
 use Rattle.subject.specs.Spelling.{is_dot, is_barred, mark, marks}
 use Rattle.subject.specs.Plain.{one, plain_from}
 use Rattle.subject.proofs.Bytewise.{digit}
+use Rattle.subject.proofs.Chunks.{word_is, word_length}
 
 -- two words of which no bit is set
 or_none : (a b : ℕ) → bit_or a b ≡ 0 → (a ≡ 0) × (b ≡ 0)
@@ -189,51 +191,50 @@ pub record Seen (text : List ℕ) (faults counts before i : ℕ) : Type 0 where
   pub last : before ≡ mark (last_dot true (take i text))
   pub clear : faults ≡ 0 → Tidy true (take i text)
 
-pub seen_none : (text : List ℕ) → Seen text 0 0 0x80 0
-seen_none text = record { within = omega arith; count = refl; most = omega arith; last = refl; clear = λ e. tt }
+-- a word more: d marks the dots in it, b the barred bytes
+module _ (text : List ℕ) (ws : List (List ℕ)) (front : ws ≡ first_chunks 8 (length text / 8) text) (many : length ws ≡ length text / 8) (k : ℕ) (h : k < length ws)
+    (faults counts before : ℕ) (s : Seen text faults counts before (8 * k)) (d b : ℕ) (d-is : d ≡ spell (marks is_dot (get_or ws k []))) (b-is : b ≡ spell (marks is_barred (get_or ws k []))) where
+  eight : length (get_or ws k []) ≡ 8
+  eight = ap length (word_is text ws front many k h) ∙ word_length text ws front many k h
 
--- eight bytes more: d marks the dots among them, b the barred bytes
-module _ (text : List ℕ) (faults counts before i : ℕ) (s : Seen text faults counts before i) (h : i + 8 ≤ length text) (d b : ℕ)
-    (d-is : d ≡ spell (marks is_dot (take 8 (drop i text)))) (b-is : b ≡ spell (marks is_barred (take 8 (drop i text)))) where
-  eight : length (take 8 (drop i text)) ≡ 8
-  eight = omega (arith, length-take 8 (drop i text), length-drop i text)
-
-  split : take (i + 8) text ≡ take i text ++ take 8 (drop i text)
-  split = take-add i 8 text
+  split : take (8 * (k + 1)) text ≡ take (8 * k) text ++ get_or ws k []
+  split =
+      let n : 8 * (k + 1) ≡ 8 * k + 8 = omega arith in
+      rw (n, word_is text ws front many k h) (take-add (8 * k) 8 text)
 
   -- the pairs of dots, as the code has them
-  paired_is : bit_and (d / 2 ^ 7 + d / 2 ^ 15) 0x00ff00ff00ff00ff ≡ paired 4 (bits (take 8 (drop i text)))
+  paired_is : bit_and (d / 2 ^ 7 + d / 2 ^ 15) 0x00ff00ff00ff00ff ≡ paired 4 (bits (get_or ws k []))
   paired_is =
-      let m = marks_bits (take 8 (drop i text)) in
-      let p : d / 2 ^ 7 ≡ bits (take 8 (drop i text)) = omega (arith, d-is, m) in
-      let q : d / 2 ^ 15 ≡ bits (take 8 (drop i text)) / 256 = omega (arith, d-is, m) in
+      let m = marks_bits (get_or ws k []) in
+      let p : d / 2 ^ 7 ≡ bits (get_or ws k []) = omega (arith, d-is, m) in
+      let q : d / 2 ^ 15 ≡ bits (get_or ws k []) / 256 = omega (arith, d-is, m) in
       rw (p, q)
 
   pub pairs_fit : bit_and (d / 2 ^ 7 + d / 2 ^ 15) 0x00ff00ff00ff00ff ≤ 0x0002000200020002
-  pairs_fit = rw paired_is (pairs 4 (take 8 (drop i text)) eight).1
+  pairs_fit = rw paired_is (pairs 4 (get_or ws k []) eight).1
 
-  last-is : d / 2 ^ 56 ≡ mark (last_dot true (take (i + 8) text))
+  last-is : d / 2 ^ 56 ≡ mark (last_dot true (take (8 * (k + 1)) text))
   last-is =
-      let m = last-mark (last_dot true (take i text)) 7 (take 8 (drop i text)) eight in
-      let k : d / 2 ^ 56 ≡ shifted 7 d = omega arith in
-      k ∙ rw (d-is, split, last_both true (take i text) (take 8 (drop i text))) m
+      let m = last-mark (last_dot true (take (8 * k) text)) 7 (get_or ws k []) eight in
+      let z : d / 2 ^ 56 ≡ shifted 7 d = omega arith in
+      z ∙ rw (d-is, split, last_both true (take (8 * k) text) (get_or ws k [])) m
 
-  pub seen_eight : Seen text (bit_or (bit_or (bit_or faults b) (bit_and d (d / 2 ^ 8))) (bit_and d before)) (counts + bit_and (d / 2 ^ 7 + d / 2 ^ 15) 0x00ff00ff00ff00ff) (d / 2 ^ 56) (i + 8)
-  seen_eight =
+  pub seen_word : Seen text (bit_or (bit_or (bit_or faults b) (bit_and d (d / 2 ^ 8))) (bit_and d before)) (counts + bit_and (d / 2 ^ 7 + d / 2 ^ 15) 0x00ff00ff00ff00ff) (d / 2 ^ 56) (8 * (k + 1))
+  seen_word =
       record {
-        within = h;
-        count = rw (split, dots_both (take i text) (take 8 (drop i text)), paired_is) (omega (arith, s.count, (pairs 4 (take 8 (drop i text)) eight).0));
+        within = omega (arith, h, many);
+        count = rw (split, dots_both (take (8 * k) text) (get_or ws k []), paired_is) (omega (arith, s.count, (pairs 4 (get_or ws k []) eight).0));
         most = omega (arith, s.most, pairs_fit);
         last = last-is;
         clear = λ e.
             let x = or_none (bit_or (bit_or faults b) (bit_and d (d / 2 ^ 8))) (bit_and d before) e in
             let y = or_none (bit_or faults b) (bit_and d (d / 2 ^ 8)) x.0 in
             let z = or_none faults b y.0 in
-            rw split (tidy_both true (take i text) (take 8 (drop i text)) (s.clear z.0)
-            (tidy (last_dot true (take i text)) (take 8 (drop i text)) (sym b-is ∙ z.1) (rw (← d-is) y.1) (rw (← d-is, ← s.last) x.1)));
+            rw split (tidy_both true (take (8 * k) text) (get_or ws k []) (s.clear z.0)
+            (tidy (last_dot true (take (8 * k) text)) (get_or ws k []) (sym b-is ∙ z.1) (rw (← d-is) y.1) (rw (← d-is, ← s.last) x.1)));
       }
 
--- the end of the pass by eights: what is left is passed by bytes
+-- the end of the pass by words: what is left is passed by bytes
 module _ (text : List ℕ) (faults counts before i : ℕ) (s : Seen text faults counts before i) (l : length text ≤ 4096) where
   count-is : counts % 65535 ≡ dots_in (take i text)
   count-is = omega (arith, s.count, dots_most (take i text), length-take i text, l)
@@ -241,8 +242,8 @@ module _ (text : List ℕ) (faults counts before i : ℕ) (s : Seen text faults 
   pub count_fits : counts % 65535 ≤ 4096
   count_fits = omega (arith, count-is, dots_most (take i text), length-take i text, l)
 
-  pub seen-rest : faults ≡ 0 → plain_from (not (eqb before 0)) (counts % 65535) (drop i text) ≡ plain_from true 0 text
-  seen-rest z =
+  pub seen-rest : faults ≡ 0 → (j : ℕ) → j ≡ i → (rest : List ℕ) → rest ≡ drop j text → plain_from (not (eqb before 0)) (counts % 65535) rest ≡ plain_from true 0 text
+  seen-rest z j e rest back =
       let n : counts % 65535 ≡ 0 + dots_in (take i text) = omega (arith, count-is) in
       let d : not (eqb before 0) ≡ last_dot true (take i text) = rw s.last (marked-is (last_dot true (take i text))) in
-      rw (n, d) (sym (passed true 0 (take i text) (drop i text) (s.clear z)) ∙ ap (plain_from true 0) (take-append-drop i text))
+      rw (n, d, back, e) (sym (passed true 0 (take i text) (drop i text) (s.clear z)) ∙ ap (plain_from true 0) (take-append-drop i text))

@@ -1,6 +1,5 @@
 pub mod Ascii
 pub mod Booleans
-pub mod Chars
 pub mod Decoding
 pub mod Depths
 pub mod Lines
@@ -10,4 +9,5 @@ pub mod Pieces
 pub mod SameGrammar
 pub mod SameMatching
 pub mod Stores
+pub mod Tokens
 pub mod Utf8Rows

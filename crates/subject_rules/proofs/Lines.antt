@@ -5,8 +5,7 @@ use mathlib.Core.Path.{◌≡◌, refl, ap}
 use mathlib.Core.Bool.{Bool, true, false}
 use mathlib.Core.List.{List, [], ◌∷◌, ◌++◌}
 use lib.Dec.{leb}
-use lib.ListN.{length, get_or, drop}
-use lib.Seq.{drop-cons}
+use lib.ListN.{length, get_or}
 use borrow.Author.Tests.{le-leb, lt-leb, leb-true, leb-false}
 use Rattle.subject_rules.specs.Choice.{pick, and, or}
 use Rattle.subject_rules.specs.Utf8.{Range, range, within, begins, length_in}
@@ -35,14 +34,6 @@ length_in_le (row ∷ rows) bs = go (begins row bs) refl (length_in_le rows bs)
     go : (t : Bool) → begins row bs ≡ t → length_in rows bs ≤ length bs → length_in (row ∷ rows) bs ≤ length bs
     go true t h = rw t (begins-length row bs t)
     go false t h = rw t h
-
--- a line against the bytes from position i on; j is the position behind it
-module _ (s : List ℕ) (i j : ℕ) (h : i < length s) (n : j ≡ suc i) (r : Range) (rs : List Range) where
-  pub begins_in : within r (get_or s i 0) ≡ true → begins (r ∷ rs) (drop i s) ≡ begins rs (drop j s)
-  begins_in e = rw (n, drop-cons s i 0 h, e)
-
-  pub begins-out : within r (get_or s i 0) ≡ false → begins (r ∷ rs) (drop i s) ≡ false
-  begins-out e = rw (drop-cons s i 0 h, e)
 
 module _ (lo hi : ℕ) where
   -- the line can start with a byte from lo to hi

@@ -1,24 +1,19 @@
 -- One more entry: the longest run shared with the entries before it, and the nodes that it adds. Assumes nothing.
-use Rattle.std.proofs.Common.{◌≡◌, ℕ, suc, ◌+◌, ◌-◌, ◌*◌, ◌<◌, ◌≤◌, max, Bool, true, false, eqb, List, [], ◌∷◌, ◌++◌, map, length, get_or, take, drop, sym, refl, ap, ◌∙◌, ap₂, arith}
-use mathlib.Core.Option.{none}
+use Rattle.std.proofs.Common.{◌≡◌, ℕ, suc, ◌+◌, ◌-◌, ◌<◌, ◌≤◌, max, Bool, true, false, eqb, List, [], ◌∷◌, ◌++◌, map, length, take, sym, refl, ap, ◌∙◌, ap₂, add-one, arith, take-suc}
 use Rattle.subject_rules.specs.Choice.{pick}
-use Rattle.subject_rules.specs.Text.{tokens, is_tail}
+use Rattle.subject_rules.specs.Text.{cut_at, tokens, is_tail}
 use Rattle.subject_rules.specs.Fnv.{fnv}
-use Rattle.subject_rules.proofs.Depths.{accepted_depth}
 use Rattle.sublist_tree.specs.Lists.{largest}
 use Rattle.sublist_tree.specs.Tree.{Line, line, onto, line_of, keys_of}
 use Rattle.sublist_tree.specs.Nodes.{nodes}
 use Rattle.sublist_tree.proofs.Sorting.{map-append}
 use Rattle.sublist_tree.proofs.Bytes.{eqb_whole}
 use Rattle.sublist_entries.specs.declared.Entry.{Entry}
-use Rattle.sublist_entries.specs.Entries.{text_of, lines_of, target_word}
-use Rattle.sublist_rules.specs.Building.{bad_entries, needed}
+use Rattle.sublist_entries.specs.Entries.{text_of, target_word, entry_at, lines_of}
+use Rattle.sublist_rules.specs.Building.{needed}
 use Rattle.sublist_area_rules.specs.Words.{token_key}
-use Rattle.sublist.specs.Sharing.{EntryWithin, shared, keys_in, shared_by, longest}
-use Rattle.sublist_entries.specs.Numbers.{unflat}
-use Rattle.sublist_rules.proofs.AcceptedEntries.{Sound, sound-entries}
-use Rattle.sublist_entries.proofs.Unflat.{entry_at, unflat_more, unflat-at}
-use Rattle.sublist.proofs.Needed.{longest_run, longest-most, shared_self, nodes_more}
+use Rattle.sublist.specs.Sharing.{shared, keys_in, shared_by, longest}
+use Rattle.sublist.proofs.Needed.{longest_run, shared-most, longest-most, shared_self, nodes_more}
 
 largest-last : (xs : List ℕ) (x : ℕ) → largest (xs ++ (x ∷ [])) ≡ max (largest xs) x
 largest-last [] x = omega arith
@@ -66,9 +61,20 @@ keys-most (t ∷ ts) = go (is_tail t) (line_of fnv ts 0) (keys-most ts)
     go true l h = omega arith
     go false (line ks v y) h = omega arith
 
--- a pattern has no more keys than tokens
-pub shared-tokens : (text : List ℕ) → shared_by text text ≤ length (tokens text)
-shared-tokens text = omega (arith, shared_all [] text, keys-most (tokens text))
+-- a text begins alike with another by no more keys than it has tokens
+pub shared-tokens : (text other : List ℕ) → shared_by text other ≤ length (tokens text)
+unfolding shared_by
+shared-tokens text other = omega (arith, shared-most eqb (keys_in (tokens text)) (keys_in (tokens other)), keys-most (tokens text))
+
+-- and it has no more tokens than bytes, and one
+pub tokens-most : (bs : List ℕ) → length (tokens bs) ≤ length bs + 1
+tokens-most [] = omega arith
+tokens-most (b ∷ bs) = go (eqb b 0x2e) (tokens bs) (tokens-most bs)
+  where
+    go : (c : Bool) (ts : List (List ℕ)) → length ts ≤ length bs + 1 → length (cut_at c b ts) ≤ suc (length bs) + 1
+    go true ts h = omega arith
+    go false [] h = omega arith
+    go false (t ∷ ts) h = omega arith
 
 -- no entry needs a node but the root
 pub needed_none : (store : List ℕ) → needed store [] ≡ 1
@@ -88,36 +94,14 @@ needed_more store es e =
     ∙ nodes_more eqb eqb_whole (lines_of store es) (line_of fnv (tokens (text_of store e)) (target_word e))
     ∙ rw (keys-only (tokens (text_of store e)) (target_word e), longest_lines store (text_of store e) es, shared_all store (text_of store e))
 
--- the text of entry i, read by its bounds
-abbrev pub text_at : List ℕ → List ℕ → ℕ → List ℕ
-text_at store words i = take (get_or words (3 * i) 0 + get_or words (3 * i + 1) 0 - get_or words (3 * i) 0) (drop (get_or words (3 * i) 0) store)
+-- the same for the first i entries of a list
+module _ (store : List ℕ) (es : List Entry) (i : ℕ) (h : i < length es) where
+  more : take (i + 1) es ≡ take i es ++ (entry_at es i ∷ [])
+  more = rw (add-one i) (take-suc es i (record { start = 0; length = 0; target = 0 }) h)
 
-pub text_at_lem : (store words : List ℕ) (i : ℕ) → text_at store words i ≡ text_of store (entry_at words i)
-text_at_lem store words i = rw size
-  where
-    size : get_or words (3 * i) 0 + get_or words (3 * i + 1) 0 - get_or words (3 * i) 0 ≡ get_or words (3 * i + 1) 0
-    size = omega arith
+  pub longest_next : (text : List ℕ) (m n : ℕ) → m ≡ longest store text (take i es) → n ≡ shared_by text (text_of store (entry_at es i)) → max m n ≡ longest store text (take (i + 1) es)
+  longest_next text m n e f = rw (more, e, f) (sym (longest_more store text (take i es) (entry_at es i)))
 
--- the same for the entries that a list of words holds
-module _ (store words : List ℕ) (i : ℕ) (h : 3 * i + 3 ≤ length words) where
-  pub longest-next : (text : List ℕ) (m n : ℕ) → m ≡ longest store text (unflat i words) → n ≡ shared_by text (text_at store words i) → max m n ≡ longest store text (unflat (i + 1) words)
-  longest-next text m n e f =
-      rw (e, f, text_at_lem store words i, unflat_more words i h) (sym (longest_more store text (unflat i words) (entry_at words i)))
-
-  pub needed-next : (n keys run : ℕ) → n ≡ needed store (unflat i words) → keys ≡ shared_by (text_at store words i) (text_at store words i) → run ≡ longest store (text_at store words i) (unflat i words)
-      → n + (keys - run) ≡ needed store (unflat (i + 1) words)
-  needed-next n keys run e f g =
-      rw (e, f, g, text_at_lem store words i, unflat_more words i h) (sym (needed_more store (unflat i words) (entry_at words i)))
-
--- where no entry is refused
-module _ (store words : List ℕ) (n : ℕ) (h : 3 * n ≤ length words) (sound : bad_entries store 0 (unflat n words) ≡ none) (i : ℕ) (l : i < n) where
-  entry-sound : Sound store (entry_at words i)
-  entry-sound = unflat-at (Sound store) n words h (sound-entries store 0 (unflat n words) sound) i l
-
-  pub entry-within : EntryWithin store words i
-  entry-within = entry-sound.0
-
-  pub entry-keys : shared_by (text_at store words i) (text_at store words i) ≤ 32
-  entry-keys =
-      rw (text_at_lem store words i)
-      (omega (arith, shared-tokens (text_of store (entry_at words i)), accepted_depth true (text_of store (entry_at words i)) entry-sound.1.0 entry-sound.1.1))
+  pub needed-next : (n keys run : ℕ) → n ≡ needed store (take i es) → keys ≡ shared_by (text_of store (entry_at es i)) (text_of store (entry_at es i))
+      → run ≡ longest store (text_of store (entry_at es i)) (take i es) → n + (keys - run) ≡ needed store (take (i + 1) es)
+  needed-next n keys run e f g = rw (more, e, f, g) (sym (needed_more store (take i es) (entry_at es i)))

@@ -1,10 +1,10 @@
 -- A node that a lookup gives or that is made is one of those counted, and they fit the area.
-use Rattle.std.proofs.Common.{◌≡◌, ℕ, zero, suc, ◌+◌, ◌*◌, ◌/◌, ◌%◌, ◌<◌, ◌≤◌, eqb, leb, List, length, get_or, ap, arith, leb-false}
+use Rattle.std.proofs.Common.{◌≡◌, ℕ, zero, suc, ◌+◌, ◌*◌, ◌/◌, ◌%◌, ◌<◌, ◌≤◌, eqb, leb, List, length, get_or, Result, Ok, Err, ap, arith, leb-false}
 use Rattle.sublist_tree.specs.Tree.{Key, star, lit}
 use Rattle.sublist_area_rules.specs.declared.Child.{Child}
 use Rattle.sublist_area_rules.specs.declared.Child.TheVariants.{Node, Missing, Damaged}
 use Rattle.sublist_area_rules.specs.declared.Placed.{Placed}
-use Rattle.sublist_area_rules.specs.declared.Placed.TheVariants.{At, Full, Broken}
+use Rattle.sublist_area_rules.specs.declared.PlaceError.{PlaceError}
 use Rattle.sublist_area_rules.specs.Words.{Met, word, by_hash, outside, seek, literal_child, star_child, child_of}
 use Rattle.sublist_area_rules.specs.Growing.{placed, child_or_new}
 use Rattle.sublist_trie.proofs.Runs.{pick_ind}
@@ -15,10 +15,10 @@ NodeBelow n (Node j) = j < n
 NodeBelow n (Missing link) = Unit {0}
 NodeBelow n Damaged = Unit {0}
 
-abbrev pub PlaceFits : ℕ → Placed → Type 0
-PlaceFits words (At j n) = (j < n) × (n * 16 ≤ words)
-PlaceFits words Full = Unit {0}
-PlaceFits words Broken = Unit {0}
+-- the node is one of those counted, and they fit so many words
+abbrev pub PlaceFits : ℕ → Result Placed PlaceError → Type 0
+PlaceFits words (Ok p) = (p.node < p.count) × (p.count * 16 ≤ words)
+PlaceFits words (Err e) = Unit {0}
 
 module _ (a : List ℕ) (n : ℕ) where
   seek_node : (test : ℕ → Met) (f rest link : ℕ) → NodeBelow n (seek test a n rest f link)
@@ -42,11 +42,11 @@ module _ (a : List ℕ) (n : ℕ) where
   unfolding placed
   placed-fits (Node j) i k h b = (b, h)
   placed-fits (Missing link) i k h b =
-      pick_ind (λ (s : Placed × List ℕ). PlaceFits (length a) s.0) (leb (length a / 16) n) (λ _. tt)
-      (λ t. pick_ind (λ (s : Placed × List ℕ). PlaceFits (length a) s.0) (leb 4294967295 n) (λ _. tt)
+      pick_ind (λ (s : Result Placed PlaceError × List ℕ). PlaceFits (length a) s.0) (leb (length a / 16) n) (λ _. tt)
+      (λ t. pick_ind (λ (s : Result Placed PlaceError × List ℕ). PlaceFits (length a) s.0) (leb 4294967295 n) (λ _. tt)
       (λ _. (omega arith, omega (arith, leb-false (length a / 16) n t))))
   placed-fits Damaged i k h b = tt
 
-  pub place-fits : (i : ℕ) (k : Key ℕ) (r : Placed) (b : List ℕ) → (r, b) ≡ child_or_new a n i k → n * 16 ≤ length a → PlaceFits (length a) r
+  pub place-fits : (i : ℕ) (k : Key ℕ) (r : Result Placed PlaceError) (b : List ℕ) → (r, b) ≡ child_or_new a n i k → n * 16 ≤ length a → PlaceFits (length a) r
   unfolding child_or_new
-  place-fits i k r b e h = rw (ap (λ (s : Placed × List ℕ). s.0) e) (placed-fits (child_of a n i k) i k h (child-below i k))
+  place-fits i k r b e h = rw (ap (λ (s : Result Placed PlaceError × List ℕ). s.0) e) (placed-fits (child_of a n i k) i k h (child-below i k))

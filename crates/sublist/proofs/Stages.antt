@@ -1,47 +1,39 @@
--- What each way through the stages of the build's core makes of the answer and of what is left.
-use Rattle.std.proofs.Common.{◌≡◌, ℕ, ◌-◌, ◌<◌, ◌≤◌, Bool, true, false, ltb, List, [], ◌∷◌, length, refl, ap, ◌∙◌, arith, ltb-false, ltb-true, le-ltb, lt-ltb}
+-- What the root, the first pass and the rest make of a build.
+use Rattle.std.proofs.Common.{◌≡◌, ℕ, ◌<◌, ◌≤◌, Bool, true, false, ltb, List, [], length, refl, Result, Ok, Err, ap, ◌∙◌, arith, ltb-false, ltb-true, le-ltb, lt-ltb}
+use Rattle.std.proofs.Math.Option.{none, some}
 use Rattle.subject_rules.specs.Choice.{pick}
-use Rattle.subject_rules.specs.Answers.{Answer, answer}
 use Rattle.sublist_area_rules.specs.declared.Placed.{Placed}
-use Rattle.sublist_area_rules.specs.declared.Placed.TheVariants.{At, Full, Broken}
-use Rattle.sublist_area_rules.specs.Growing.{planted, rooted}
+use Rattle.sublist_area_rules.specs.declared.PlaceError.{PlaceError}
+use Rattle.sublist_area_rules.specs.declared.PlaceError.TheVariants.{Full}
+use Rattle.sublist_area_rules.specs.Growing.{placed_at, planted, rooted}
 use Rattle.sublist_entries.specs.declared.Entry.{Entry}
-use Rattle.sublist.specs.declared.SublistError.{SublistError}
-use Rattle.sublist.specs.declared.EntryCheck.{EntryCheck}
-use Rattle.sublist.specs.declared.EntryCheck.TheVariants.{Sound, Bad}
-use Rattle.sublist.specs.Answers.{build_refusal}
 use Rattle.sublist_entries.specs.Entries.{lines_of}
-use Rattle.sublist_rules.specs.Building.{bad_entries, needed, over_limit}
-use Rattle.sublist_rules.specs.Passes.{End, Growth, growth, stopped, lines_in, settled, laid, Filling, filling, filled}
-use Rattle.sublist_rules.specs.Leaving.{BuildOutcome}
-use Rattle.sublist.specs.Told.{checked}
-use Rattle.sublist_rules.specs.Core.{all_in, root_worst, targets_of, finish_by, built_by, leaves_by, core_into}
+use Rattle.sublist_rules.specs.Building.{needed}
+use Rattle.sublist_rules.specs.Passes.{End, Growth, growth, stopped, lines_in}
+use Rattle.sublist_rules.specs.Leaving.{BuildOutcome, build_into}
+use Rattle.sublist_rules.specs.Core.{list_refused, all_in, finish_by, built_by, leaves_by}
+use Rattle.sublist_rules.proofs.Composed.{core_builds}
+use Rattle.sublist.specs.declared.SublistError.{SublistError}
+use Rattle.sublist.specs.declared.SublistError.TheVariants.{NodesFull}
+use Rattle.sublist.specs.Answers.{build_refusal, built}
 
 -- the root is written where there is room for it
-module _ (a : List ℕ) (r : Placed) (b : List ℕ) (e : (r, b) ≡ rooted a) where
-  pub rooted-at : (j m : ℕ) → r ≡ At j m → (16 ≤ length a) × (b ≡ planted a)
+module _ (a : List ℕ) (r : Result Placed PlaceError) (b : List ℕ) (e : (r, b) ≡ rooted a) where
+  pub rooted-at : (p : Placed) → r ≡ Ok p → (16 ≤ length a) × (b ≡ planted a)
   unfolding rooted
-  rooted-at j m p = go (ltb (length a) 16) refl e
+  rooted-at p h = go (ltb (length a) 16) refl e
     where
-      go : (t : Bool) → ltb (length a) 16 ≡ t → ◌≡◌ {A = Placed × List ℕ} (r, b) (pick t (Full, a) (At 0 1, planted a)) → (16 ≤ length a) × (b ≡ planted a)
-      go true q s = let d : r ≡ Full = ap (λ (x : Placed × List ℕ). x.0) s in let z : ◌≡◌ {A = ℕ} 0 1 = cc in absurd (omega arith)
-      go false q s = (ltb-false (length a) 16 q, ap (λ (x : Placed × List ℕ). x.1) s)
+      go : (t : Bool) → ltb (length a) 16 ≡ t → ◌≡◌ {A = Result Placed PlaceError × List ℕ} (r, b) (pick t (Err Full, a) (placed_at 0 1, planted a)) → (16 ≤ length a) × (b ≡ planted a)
+      go true q s = let d : r ≡ Err Full = ap (λ (x : Result Placed PlaceError × List ℕ). x.0) s in let z : ◌≡◌ {A = ℕ} 0 1 = cc in absurd (omega arith)
+      go false q s = (ltb-false (length a) 16 q, ap (λ (x : Result Placed PlaceError × List ℕ). x.1) s)
 
-  pub rooted_full : r ≡ Full → (length a < 16) × (b ≡ a)
+  pub rooted-not : (f : PlaceError) → r ≡ Err f → (length a < 16) × (b ≡ a)
   unfolding rooted
-  rooted_full p = go (ltb (length a) 16) refl e
+  rooted-not f h = go (ltb (length a) 16) refl e
     where
-      go : (t : Bool) → ltb (length a) 16 ≡ t → ◌≡◌ {A = Placed × List ℕ} (r, b) (pick t (Full, a) (At 0 1, planted a)) → (length a < 16) × (b ≡ a)
-      go true q s = (ltb-true (length a) 16 q, ap (λ (x : Placed × List ℕ). x.1) s)
-      go false q s = let d : r ≡ At 0 1 = ap (λ (x : Placed × List ℕ). x.0) s in let z : ◌≡◌ {A = ℕ} 0 1 = cc in absurd (omega arith)
-
-  pub rooted-broken : r ≡ Broken → ⊥
-  unfolding rooted
-  rooted-broken p = go (ltb (length a) 16) e
-    where
-      go : (t : Bool) → ◌≡◌ {A = Placed × List ℕ} (r, b) (pick t (Full, a) (At 0 1, planted a)) → ⊥
-      go true s = let d : r ≡ Full = ap (λ (x : Placed × List ℕ). x.0) s in let z : ◌≡◌ {A = ℕ} 0 1 = cc in omega arith
-      go false s = let d : r ≡ At 0 1 = ap (λ (x : Placed × List ℕ). x.0) s in let z : ◌≡◌ {A = ℕ} 0 1 = cc in omega arith
+      go : (t : Bool) → ltb (length a) 16 ≡ t → ◌≡◌ {A = Result Placed PlaceError × List ℕ} (r, b) (pick t (Err Full, a) (placed_at 0 1, planted a)) → (length a < 16) × (b ≡ a)
+      go true q s = (ltb-true (length a) 16 q, ap (λ (x : Result Placed PlaceError × List ℕ). x.1) s)
+      go false q s = let d : r ≡ placed_at 0 1 = ap (λ (x : Result Placed PlaceError × List ℕ). x.0) s in let z : ◌≡◌ {A = ℕ} 0 1 = cc in absurd (omega arith)
 
 module _ (es : List Entry) (store a : List ℕ) where
   pub grow_room : 16 ≤ length a → lines_in (growth 1 (planted a) []) (lines_of store es) ≡ all_in es store a
@@ -50,39 +42,20 @@ module _ (es : List Entry) (store a : List ℕ) where
   pub grow_short : length a < 16 → stopped a ≡ all_in es store a
   grow_short h = rw (lt-ltb (length a) 16 h)
 
--- behind the first pass
-module _ (count need generation n : ℕ) (a xs ts : List ℕ) (ends : List End) where
-  abbrev Finishes : Answer → Filling → Type 0
-  Finishes r f = record { says = r; areas = f } ≡ finish_by count need xs ts generation (growth n a ends)
-
-  pub short-targets : length ts < count → Finishes (answer 15 []) (filling a ts)
-  short-targets h = rw (lt-ltb (length ts) count h)
-
-  module _ (h : count ≤ length ts) (b : List ℕ) (s : b ≡ settled a (n - 1)) (w : ℕ) (v : w ≡ root_worst b) where
-    worst-is : root_worst (settled a (n - 1)) ≡ w
-    worst-is = rw (v, s)
-
-    pub over_limit_lem : over_limit w ≡ true → Finishes (answer 16 (w ∷ 1024 ∷ [])) (filling b ts)
-    over_limit_lem l = rw (le-ltb (length ts) count h, worst-is, l, s)
-
-    pub within_limit : over_limit w ≡ false → (f : Filling) → f ≡ filled (filling (laid b 0 n 0) ts) ends xs → Finishes (answer 0 (n ∷ w ∷ generation ∷ [])) f
-    within_limit l f g = rw (le-ltb (length ts) count h, worst-is, l, g, s)
-
--- the whole
-module _ (count : ℕ) (es : List Entry) (store a ts : List ℕ) (generation : ℕ) where
-  abbrev Ends : Answer → Filling → Type 0
-  Ends r f = record { says = r; areas = f } ≡ core_into count es store a ts generation
-
-  pub too_many : 2048 < count → Ends (answer 10 []) (filling a ts)
+-- a build that is refused for its list, and one that is not
+module _ (es : List Entry) (store a ts : List ℕ) (generation : ℕ) where
+  pub bad_list : (e : SublistError) → some (build_refusal e) ≡ list_refused es store → built (Err e) a ts ≡ build_into es store a ts generation
   unfolding built_by leaves_by
-  too_many h = rw (lt-ltb 2048 count h)
+  bad_list e h = rw (← core_builds es store a ts generation, ← h)
 
-  module _ (h : count ≤ 2048) (c : EntryCheck) (q : checked c ≡ bad_entries store 0 es) where
-    pub bad-entry : (e : SublistError) → c ≡ Bad e → Ends (build_refusal e) (filling a ts)
+  module _ (ok : none ≡ list_refused es store) (xs : List Entry) (st : List ℕ) (same : (xs ≡ es) × (st ≡ store)) where
+    good_list : (need : ℕ) → need ≡ needed st xs → (g : Growth) → g ≡ all_in xs st a → finish_by xs need ts generation g ≡ build_into es store a ts generation
     unfolding built_by leaves_by
-    bad-entry e p = rw (le-ltb 2048 count h, ← q, p)
+    good_list need n g s = rw (← core_builds es store a ts generation, ← ok, n, s, same.0, same.1)
 
-    pub all_sound : c ≡ Sound → (g : Growth) → g ≡ all_in es store a → (o : BuildOutcome) → o ≡ finish_by count (needed store es) (targets_of es) ts generation g
-        → o ≡ core_into count es store a ts generation
-    unfolding built_by leaves_by
-    all_sound p g s o k = k ∙ rw (le-ltb 2048 count h, ← q, p, s)
+    pub no_room : (b : List ℕ) → stopped b ≡ all_in xs st a → (need : ℕ) → need ≡ needed st xs → built (Err (NodesFull need)) b ts ≡ build_into es store a ts generation
+    no_room b s need n = good_list need n (stopped b) s
+
+    pub all_in_then : (n : ℕ) (b : List ℕ) (ends : List End) → growth n b ends ≡ all_in xs st a → (o : BuildOutcome) → o ≡ finish_by xs 0 ts generation (growth n b ends)
+        → o ≡ build_into es store a ts generation
+    all_in_then n b ends s o e = e ∙ good_list (needed st xs) refl (growth n b ends) s

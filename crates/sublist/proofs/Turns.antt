@@ -1,25 +1,13 @@
 -- What each way through the passes over the nodes makes of their definitions.
-use Rattle.std.proofs.Common.{◌≡◌, ℕ, zero, suc, ◌+◌, ◌-◌, ◌*◌, ◌%◌, ◌<◌, ◌≤◌, max, List, length, get_or, drop, set, sym, ◌∙◌, add-one, sub-one, arith, le-ltb, lt-ltb, eq-eqb, ne_eqb}
+use Rattle.std.proofs.Common.{◌≡◌, ℕ, zero, suc, ◌+◌, ◌-◌, ◌%◌, ◌<◌, ◌≤◌, List, length, get_or, drop, add-one, sub-one, drop-cons, arith}
 use Rattle.sublist_area_rules.specs.Words.{word}
-use Rattle.sublist_rules.specs.Passes.{node_worst, told, settled, laid_at, laid, Filling, filled_by, filled}
-use Rattle.sublist_entries.specs.Numbers.{unflat}
-use Rattle.sublist_rules.specs.Core.{end_of, ends_of, targets_of}
-use Rattle.sublist.proofs.Listed.{unflat_on, ends_on, ends-end}
-
--- node i tells its parent
-module _ (a : List ℕ) (i p : ℕ) (e : p ≡ word a i 12) where
-  pub tell_none : i ≤ p → a ≡ told a i (word a i 12)
-  unfolding told
-  tell_none h = rw (← e, le-ltb p i h)
-
-  module _ (h : p < i) (w x : ℕ) (v : w ≡ node_worst a i) (y : x ≡ word a p 3) where
-    pub tell_star : x ≡ i → set a (p * 16 + 4) w ≡ told a i (word a i 12)
-    unfolding told
-    tell_star z = rw (← e, lt-ltb p i h, eq-eqb (word a p 3) i (sym y ∙ z), v)
-
-    pub tell_lit : (x ≡ i → ⊥) → (u : ℕ) → u ≡ max (word a p 6) w → set a (p * 16 + 6) u ≡ told a i (word a i 12)
-    unfolding told
-    tell_lit z u m = rw (← e, lt-ltb p i h, ne_eqb (word a p 3) i (λ n. z (y ∙ n)), m, v)
+use Rattle.sublist_rules.specs.Passes.{told, settled, laid_at, laid, Filling, filled_by, filled}
+use Rattle.sublist_rules.specs.Core.{targets_of}
+use Rattle.sublist_entries.specs.declared.Entry.{Entry}
+use Rattle.sublist_entries.specs.Entries.{target_word, entry_at}
+use Rattle.sublist.specs.declared.LineEnd.{LineEnd}
+use Rattle.sublist.specs.Told.{end_of, ends_of}
+use Rattle.sublist.proofs.Checks.{left_on}
 
 -- a turn of the second pass, and its end
 pub settle_on : (a : List ℕ) (i : ℕ) → 0 < i → settled a i ≡ settled (told a i (word a i 12)) (i - 1)
@@ -42,13 +30,16 @@ module _ (a : List ℕ) (i n from : ℕ) where
   lay_end h = let e : n - i ≡ 0 = omega arith in rw e
 
 -- a turn of the fourth pass, and its end
-module _ (f : Filling) (ws es : List ℕ) (i n : ℕ) where
-  pub fill_on : i < n → 3 * n ≤ length ws → n ≤ length es
-      → filled f (ends_of (n - i) (drop i es)) (targets_of (unflat (n - i) (drop (3 * i) ws)))
-      ≡ filled (filled_by f (end_of (get_or es i 0)) (get_or ws (3 * i + 2) 0 % 4294967296)) (ends_of (n - (i + 1)) (drop (i + 1) es)) (targets_of (unflat (n - (i + 1)) (drop (3 * (i + 1)) ws)))
+module _ (f : Filling) (es : List LineEnd) (xs : List Entry) (i : ℕ) where
+  pub fill_on : (e : LineEnd) → i < length xs → length xs ≤ length es
+      → filled f (ends_of (length xs - i) (drop i es)) (targets_of (drop i xs))
+      ≡ filled (filled_by f (end_of (get_or es i e)) (target_word (entry_at xs i))) (ends_of (length xs - (i + 1)) (drop (i + 1) es)) (targets_of (drop (i + 1) xs))
   unfolding filled
-  fill_on h l k = rw (ends_on es i n h k, unflat_on ws i n h l)
+  fill_on e h k =
+      let s : length xs - i ≡ suc (length xs - (i + 1)) = omega arith in
+      let inside : i < length es = omega arith in
+      rw (left_on xs i h, s, add-one i, drop-cons es i e)
 
-  pub fill_end : n ≤ i → filled f (ends_of (n - i) (drop i es)) (targets_of (unflat (n - i) (drop (3 * i) ws))) ≡ f
+  pub fill_end : length xs ≤ i → filled f (ends_of (length xs - i) (drop i es)) (targets_of (drop i xs)) ≡ f
   unfolding filled
-  fill_end h = rw (ends-end es i n h)
+  fill_end h = let s : length xs - i ≡ 0 = omega arith in rw s

@@ -1,5 +1,5 @@
 -- Only private contracts cite this file. By how many keys patterns begin alike; a `>` is no key, and none follows it.
-use Rattle.std.specs.Prelude.{ℕ, suc, ◌+◌, ◌*◌, ◌≤◌, Bool, not, List, [], ◌∷◌, map, length, nat_eq, slice_index}
+use Rattle.std.specs.Prelude.{ℕ, suc, Bool, not, List, [], ◌∷◌, map, nat_eq}
 use Rattle.subject_rules.specs.Choice.{pick, and, or}
 use Rattle.subject_rules.specs.Text.{tokens, is_tail}
 use Rattle.subject_rules.specs.Fnv.{fnv}
@@ -27,10 +27,6 @@ same_key s t = and (not (or (is_tail s) (is_tail t))) (key_is nat_eq (token_key 
 -- how many keys two texts begin with alike
 unfoldable pub shared_by : List ℕ → List ℕ → ℕ
 shared_by a b = shared nat_eq (keys_in (tokens a)) (keys_in (tokens b))
-
--- the text of entry i of those that the words hold lies in the store
-abbrev pub EntryWithin : List ℕ → List ℕ → ℕ → Type 0
-EntryWithin store words i = slice_index words (3 * i) + slice_index words (3 * i + 1) ≤ length store
 
 -- the most keys that the text begins with alike with one of the entries
 unfoldable pub longest : List ℕ → List ℕ → List Entry → ℕ

@@ -1,38 +1,55 @@
 -- Only private contracts cite this file. What the parts of a build tell each other.
-use Rattle.std.specs.Prelude.{ℕ, ◌*◌, ◌/◌, ◌<◌, ◌≤◌, List, [], ◌∷◌}
+use Rattle.std.specs.Prelude.{ℕ, ◌+◌, ◌*◌, ◌/◌, ◌<◌, ◌≤◌, false, List, [], ◌∷◌, map, length, take, get_or}
+use Rattle.std.specs.Prelude.{Result, Ok, Err}
 use Rattle.std.proofs.Math.Option.{Option, none, some}
 use Rattle.subject_rules.specs.Answers.{Answer}
-use Rattle.sublist.specs.declared.EntryCheck.{EntryCheck}
-use Rattle.sublist.specs.declared.EntryCheck.TheVariants.{Sound, Bad}
+use Rattle.sublist_area_rules.specs.declared.PlaceError.{PlaceError}
+use Rattle.sublist_area_rules.specs.Words.{words_per_node}
+use Rattle.sublist.specs.declared.SublistError.{SublistError}
+use Rattle.sublist.specs.declared.LineEnd.{LineEnd}
 use Rattle.sublist.specs.declared.Ended.{Ended}
-use Rattle.sublist.specs.declared.Ended.TheVariants as ended
-use Rattle.sublist.specs.declared.Grown.{Grown}
-use Rattle.sublist.specs.declared.Grown.TheVariants as all
 use Rattle.sublist.specs.Answers.{build_refusal}
 use Rattle.sublist_rules.specs.Passes.{End, end, Growth, growth, stopped}
-use Rattle.sublist_rules.specs.Core.{EndBelow}
 
--- the refusal of an entry, if there is one
-abbrev pub checked : EntryCheck → Option Answer
-checked Sound = none
-checked (Bad e) = some (build_refusal e)
+-- the refusal, if there is one
+abbrev pub refused : {T : Type 0} → Result T SublistError → Option Answer
+refused (Ok x) = none
+refused (Err e) = some (build_refusal e)
+
+-- node i lies in the area
+abbrev pub HasNode : List ℕ → ℕ → Type 0
+HasNode a i = i * words_per_node + words_per_node ≤ length a
+
+-- the first n nodes do, the root among them
+abbrev pub HasNodes : List ℕ → ℕ → Type 0
+HasNodes a n = (0 < n) × (n * words_per_node ≤ length a)
+
+-- where a line ends
+abbrev pub end_of : LineEnd → End
+end_of e = end e.node e.tail
+
+-- where the first k lines end
+abbrev pub ends_of : ℕ → List LineEnd → List End
+ends_of k es = map end_of (take k es)
+
+-- the first k lines end at nodes below n
+abbrev pub EndBelow : ℕ → List LineEnd → ℕ → Type 0
+EndBelow k es n = (i : ℕ) → i < k → (get_or es i (record { node = 0; tail = false })).node < n
 
 -- where a pattern ended, and the area then
-abbrev pub ended_as : Ended → List ℕ → Growth
-ended_as (ended.At j tail n) a = growth n a (end j tail ∷ [])
-ended_as ended.Full a = stopped a
+abbrev pub ended_as : Result Ended PlaceError → List ℕ → Growth
+ended_as (Ok e) a = growth e.count a (end_of e.end ∷ [])
+ended_as (Err e) a = stopped a
 
 -- the node where it ended is one of those counted, and they fit so many words
-abbrev pub EndFits : Ended → ℕ → Type 0
-EndFits (ended.At j tail n) words = (j < n) × (n * 16 ≤ words)
-EndFits ended.Full words = Unit {0}
+abbrev pub EndFits : ℕ → Ended → Type 0
+EndFits words e = (e.end.node < e.count) × (e.count * 16 ≤ words)
 
 -- the nodes of all lines, their words, and where the lines end
-abbrev pub grown_as : Grown → List ℕ → List End → Growth
-grown_as (all.Nodes n) a ends = growth n a ends
-grown_as all.Full a ends = stopped a
+abbrev pub grown_as : Result ℕ PlaceError → List ℕ → List End → Growth
+grown_as (Ok n) a ends = growth n a ends
+grown_as (Err e) a ends = stopped a
 
 -- they fit so many words, and k lines end at nodes that do
-abbrev pub AllFit : Grown → ℕ → List ℕ → ℕ → Type 0
-AllFit (all.Nodes n) k es words = (0 < n) × (n * 16 ≤ words) × EndBelow k es (words / 16)
-AllFit all.Full k es words = Unit {0}
+abbrev pub AllFit : ℕ → List LineEnd → ℕ → ℕ → Type 0
+AllFit k es words n = (0 < n) × (n * 16 ≤ words) × EndBelow k es (words / 16)

@@ -1,39 +1,30 @@
 // The table that a build makes of a list of entries. A port of IronBus's SublistBuilder, its `build`.
 #![tactic(auto)]
 
-ghost use Rattle.std.specs.Prelude.{◌≡◌, ℕ, ◌+◌, ◌-◌, ◌*◌, ◌/◌, ◌%◌, ◌<◌, ◌≤◌, min, max, [], ◌++◌, length, take, drop, slice_set};
-ghost use Rattle.std.proofs.Math.Option.{none};
+ghost use Rattle.std.specs.Prelude.{◌≡◌, ◌+◌, ◌-◌, ◌*◌, ◌/◌, ◌%◌, ◌<◌, ◌≤◌, max, [], length, take, slice_set, IfOk};
 ghost use Rattle.subject_rules.specs.Text.{tokens};
-ghost use Rattle.subject.specs.Answers.{parsed};
 ghost use Rattle.subject_rules.specs.Fnv.{fnv};
 ghost use Rattle.sublist_tree.specs.Tree.{line_of};
-ghost use Rattle.sublist_area_rules.specs.Words.{words_per_node, word, token_key};
-ghost use Rattle.sublist_area_rules.specs.Growing.{child_or_new};
-ghost use Rattle.sublist.specs.Answers.{built};
-ghost use Rattle.sublist_entries.specs.Entries.{max_entries, lines_of};
-ghost use Rattle.sublist_rules.specs.Building.{invalid, bad_entry, bad_entries, needed};
-ghost use Rattle.sublist_rules.specs.Passes.{end, growth, counted, count_word, start_word, line_in, lines_in};
+ghost use Rattle.sublist_area_rules.specs.Words.{words_per_node, word, token_key, key_of};
+ghost use Rattle.sublist_area_rules.specs.Growing.{placed_at};
+ghost use Rattle.sublist_entries.specs.Entries.{max_entries, text_of, target_word, entry_at, lines_of};
+ghost use Rattle.sublist_entries.specs.Numbers.{entries_in};
+ghost use Rattle.sublist_rules.specs.Building.{bad_entry, needed};
+ghost use Rattle.sublist_rules.specs.Passes.{growth, counted, count_word, start_word, line_in, lines_in};
 ghost use Rattle.sublist_rules.specs.Passes.{node_worst, told, settled, laid_at, laid, filling, filled_by, filled};
-ghost use Rattle.sublist.specs.Flat.{flat};
-ghost use Rattle.sublist_entries.specs.Numbers.{entry_numbers, unflat, entries_in};
-ghost use Rattle.sublist.specs.Sharing.{EntryWithin, same_key, shared_by, longest};
-ghost use Rattle.sublist.specs.Told.{checked, ended_as, EndFits};
-ghost use Rattle.sublist_rules.specs.Core.{place_of, run_in, end_of, ends_of, EndBelow};
-ghost use Rattle.sublist.specs.Told.{grown_as, AllFit};
-ghost use Rattle.sublist_rules.specs.Core.{all_in, root_worst, targets_of, finish_by, core_into};
 ghost use Rattle.sublist_rules.specs.Leaving.{build_into};
+ghost use Rattle.sublist_rules.specs.Core.{run_in, list_refused, all_in, root_worst, targets_of, finish_by};
+ghost use Rattle.sublist.specs.Answers.{built};
+ghost use Rattle.sublist.specs.Sharing.{same_key, shared_by, longest};
+ghost use Rattle.sublist.specs.Told.{refused, end_of, ends_of, ended_as, grown_as};
+ghost use Rattle.sublist.specs.Told.{HasNode, HasNodes, EndBelow, EndFits, AllFit};
 
-use subject::{Parsed, SubjectError, Token, is_star, is_tail, same_bytes, token_at, token_hash};
-use sublist_area::{NODE_WORDS, larger, wide};
-use sublist_area_rules::Placed;
-use sublist_entries::{ENTRY_NUMBERS, Entry, MAX_ENTRIES, put_entry};
+use std::marker::Model;
+use subject::{SubjectError, is_star, is_tail, same_bytes, token_hash};
+use sublist_area::NODE_WORDS;
+use sublist_area_rules::{ChildKey, PlaceError, Placed};
+use sublist_entries::{Entry, EntryForm, MAX_ENTRIES};
 use sublist_walk::MAX_FORK_FRONTIER;
-
-// How many values a word has.
-const WORD: usize = 4294967296;
-
-// The largest of them.
-const MAX_WORD: u32 = 4294967295;
 
 // Why a build is refused: 01's numbers 10 and 12 to 16, in order.
 #[derive(Clone, Copy)]
@@ -46,47 +37,119 @@ pub enum SublistError {
     ForkLimitExceeded { worst_case: usize, limit: usize },
 }
 
-// A build gives node count, worst case and generation, or a refusal.
-#[derive(Clone, Copy)]
-pub enum Built {
-    Table {
-        nodes: usize,
-        worst_case: usize,
-        generation: u64,
-    },
-    Refused(SublistError),
+impl From<SubjectError> for SublistError {
+    ghost use Rattle.std.specs.Prelude.{◌≡◌};
+    ghost use Rattle.sublist.specs.declared.SublistError.TheVariants.{InvalidPattern};
+
+    ghost from_gives = { λ e r. r ≡ InvalidPattern e };
+
+    fn from(e: SubjectError) -> SublistError {
+        SublistError::InvalidPattern(e)
+    }
 }
 
-// Whether an entry is sound, or why not.
+// A table that was built: its node count and worst case, and the generation.
 #[derive(Clone, Copy)]
-enum EntryCheck {
-    Sound,
-    Bad(SublistError),
+pub struct Built {
+    pub nodes: usize,
+    pub worst_case: usize,
+    pub generation: u64,
 }
 
-// Where a pattern ended and the node count afterwards; or no room for a node.
+// Where a pattern ends: at a node, or at the `>` behind it.
 #[derive(Clone, Copy)]
-enum Ended {
-    At { node: u32, tail: bool, count: usize },
-    Full,
+struct LineEnd {
+    node: u32,
+    tail: bool,
 }
 
-// The node count after all entries, or no room for a node.
+// Where the patterns of a list end, in order.
+type Ends = [LineEnd; MAX_ENTRIES];
+
+// Where a pattern ended, and the node count afterwards.
 #[derive(Clone, Copy)]
-enum Grown {
-    Nodes(usize),
-    Full,
+struct Ended {
+    end: LineEnd,
+    count: usize,
 }
 
-fn sum(a: u32, b: u32) -> usize
-    ensures { result ≡ a + b }
+// A list of entries of either form, with its text store: no more entries than a list may have, and none refused.
+#[derive(Drop)]
+struct Listing<'a, F: EntryForm> {
+    entries: &'a [F],
+    store: &'a [u8],
+}
+
+impl<'a, F: EntryForm> Model for Listing<'a, F> {
+    ghost use Rattle.std.specs.Prelude.{◌≡◌};
+    ghost use Rattle.std.proofs.Math.Option.{none};
+    ghost use Rattle.sublist_rules.specs.Core.{list_refused};
+    ghost use Rattle.sublist.specs.Listed.{Listed};
+
+    ghost Value = { Listed };
+
+    ghost view = { λ l. record { entries = F.entries l.entries.now; store = l.store.now } };
+
+    ghost invariant = { λ l. list_refused (F.entries l.entries.now) l.store.now ≡ none };
+}
+
+impl<'a, F: EntryForm> Listing<'a, F> {
+    // 10, then entry by entry 12 before 13.
+    fn new(entries: &'a [F], store: &'a [u8]) -> Result<Listing<'a, F>, SublistError>
+        ensures refused { refused result ≡ list_refused (F.entries entries.now) store.now }
+        ensures same { IfOk result
+            (λ l. (l.entries ≡ F.entries entries.now) × (l.store ≡ store.now)) }
+    {
+        if MAX_ENTRIES < F::count(entries) {
+            return Err(SublistError::EntriesFull);
+        }
+        for i in 0..F::count(entries) {
+            check_entry(store, i, F::entry(entries, i))?;
+        }
+        Ok(Listing { entries, store })
+    }
+
+    fn count(&self) -> usize
+        ensures count { result ≡ length self.now.entries }
+        ensures few { result ≤ max_entries }
+    {
+        F::count(self.entries)
+    }
+
+    // The text of an entry.
+    fn text(&self, i: usize) -> &'a [u8]
+        requires { i < length self.now.entries }
+        ensures text { result.now ≡ text_of self.now.store (entry_at self.now.entries i) }
+        ensures depth { length (tokens result.now) ≤ 32 }
+    {
+        let e = F::entry(self.entries, i);
+        &self.store[e.start..e.start + e.length]
+    }
+
+    // The target of an entry.
+    fn target(&self, i: usize) -> u32
+        requires { i < length self.now.entries }
+        ensures { result ≡ target_word (entry_at self.now.entries i) }
+    {
+        F::entry(self.entries, i).target
+    }
+}
+
+// 12 before 13.
+fn check_entry(store: &[u8], index: usize, e: Entry) -> Result<(), SublistError>
+    ensures { refused result ≡ bad_entry store.now index e }
 {
-    a as usize + b as usize
+    let text = store.get(e.start..).and_then(|rest| rest.get(..e.length));
+    let Some(text) = text else {
+        return Err(SublistError::BadEntry(index));
+    };
+    subject::parse(text)?;
+    Ok(())
 }
 
 // A word of a node.
 fn node_word(node_words: &[u32], node: usize, field: usize) -> u32
-    requires { (node * words_per_node + words_per_node ≤ length node_words.now) × (field < words_per_node) }
+    requires { HasNode node_words.now node × (field < words_per_node) }
     ensures { result ≡ word node_words.now node field }
 {
     node_words[node * NODE_WORDS + field]
@@ -94,107 +157,54 @@ fn node_word(node_words: &[u32], node: usize, field: usize) -> u32
 
 // A word of a node gets a value.
 fn set_word(node_words: &mut [u32], node: usize, field: usize, value: u32)
-    requires { (node * words_per_node + words_per_node ≤ length node_words.old) × (field < words_per_node) }
+    requires { HasNode node_words.old node × (field < words_per_node) }
     ensures { node_words.new ≡ slice_set node_words.old (node * words_per_node + field) value }
 {
     node_words[node * NODE_WORDS + field] = value;
 }
 
-// The refusal of an entry's text, as that of the entry.
-fn refused_entry(text: Parsed) -> EntryCheck
-    ensures { checked result ≡ invalid (parsed text) }
-{
-    match text {
-        Parsed::Accepted(_) => EntryCheck::Sound,
-        Parsed::Refused(e) => EntryCheck::Bad(SublistError::InvalidPattern(e)),
-    }
-}
-
-// 12 before 13.
-fn check_entry(store: &[u8], index: usize, start: usize, size: usize) -> EntryCheck
-    ensures { checked result ≡ bad_entry store.now index (place_of start size) }
-{
-    if store.len() < start {
-        return EntryCheck::Bad(SublistError::BadEntry(index));
-    }
-    if store.len() - start < size {
-        return EntryCheck::Bad(SublistError::BadEntry(index));
-    }
-    let end = start + size;
-    let text = subject::parse(&store[start..end]);
-    let Parsed::Accepted(_) = text else {
-        return refused_entry(text);
-    };
-    EntryCheck::Sound
-}
-
-// The first entry that is not sound. Three numbers an entry: start, length, target.
-fn check_entries(words: &[usize], count: usize, store: &[u8]) -> EntryCheck
-    requires { entry_numbers * count ≤ length words.now }
-    ensures { checked result ≡ bad_entries store.now 0 (unflat count words.now) }
-{
-    let mut i = 0;
-    while i < count {
-        let at = ENTRY_NUMBERS * i;
-        let check = check_entry(store, i, words[at], words[at + 1]);
-        let EntryCheck::Sound = check else {
-            return check;
-        };
-        i += 1;
-    }
-    EntryCheck::Sound
-}
-
-// The child of a node by a token, made where it is missing.
-fn token_or_new(node_words: &mut [u32], count: usize, node: u32, token: &[u8]) -> Placed
-    ensures { (result, node_words.new)
-        ≡ child_or_new node_words.old count node (token_key token.now) }
+// The key of a token that is no `>`.
+fn child_key(token: &[u8]) -> ChildKey
+    ensures { key_of result ≡ token_key token.now }
 {
     if is_star(token) {
-        return sublist_area::star_or_new(node_words, count, node);
+        ChildKey::Star
+    } else {
+        ChildKey::Literal(token_hash(token))
     }
-    sublist_area::literal_or_new(node_words, count, node, token_hash(token))
 }
 
 // A pattern's run of tokens is put in from the root.
-fn insert_pattern(node_words: &mut [u32], nodes: usize, text: &[u8]) -> Ended
-    requires { (0 < nodes) × (nodes * words_per_node ≤ length node_words.old) }
-    ensures { (ended_as result node_words.new
-        ≡ run_in (Placed.At 0 nodes, node_words.old) (line_of fnv (tokens text.now) 0))
-        × EndFits result (length node_words.old) }
+// Kept: nodes and their count apart; in a struct each pass would have to add that its `&mut` is the same and as long.
+fn insert_pattern(node_words: &mut [u32], nodes: usize, text: &[u8]) -> Result<Ended, PlaceError>
+    requires { HasNodes node_words.old nodes }
+    ensures run { ended_as result node_words.new
+        ≡ run_in (placed_at 0 nodes, node_words.old) (line_of fnv (tokens text.now) 0) }
+    ensures fits { IfOk result (EndFits (length node_words.old)) }
 {
-    let mut at = 0;
-    let mut node = 0;
-    let mut count = nodes;
-    loop {
-        let Token::Part { start, end, next } = token_at(text, at) else {
-            return Ended::At {
-                node,
-                tail: false,
-                count,
-            };
-        };
-        if is_tail(&text[start..end]) {
-            return Ended::At {
-                node,
-                tail: true,
-                count,
-            };
+    let mut at = Placed {
+        node: 0,
+        count: nodes,
+    };
+    for token in subject::new(text) {
+        if is_tail(token) {
+            return Ok(Ended {
+                end: LineEnd {
+                    node: at.node,
+                    tail: true,
+                },
+                count: at.count,
+            });
         }
-        match token_or_new(node_words, count, node, &text[start..end]) {
-            Placed::At(id, n) => {
-                node = id;
-                count = n;
-            }
-            Placed::Full => {
-                return Ended::Full;
-            }
-            Placed::Broken => {
-                return Ended::Full;
-            }
-        }
-        at = next;
+        at = sublist_area::child_or_new(node_words, at.count, at.node, child_key(token))?;
     }
+    Ok(Ended {
+        end: LineEnd {
+            node: at.node,
+            tail: false,
+        },
+        count: at.count,
+    })
 }
 
 // The word that counts a node's exact or `>` targets.
@@ -212,122 +222,75 @@ fn start_word(tail: bool) -> usize
 }
 
 // One target more of a node.
-fn count_end(node_words: &mut [u32], node: usize, tail: bool)
-    requires { node * words_per_node + words_per_node ≤ length node_words.old }
-    ensures { node_words.new ≡ counted node_words.old node tail }
+#[tactic(auto, unfolding(sublist_rules::specs::Passes::counted))]
+fn count_end(node_words: &mut [u32], end: LineEnd)
+    requires { HasNode node_words.old end.node }
+    ensures { node_words.new ≡ counted node_words.old end.node end.tail }
 {
-    let field = count_word(tail);
-    let more = std::num::wrapping_add_u32(node_word(node_words, node, field), 1);
+    let node = end.node as usize;
+    let field = count_word(end.tail);
+    let more = node_word(node_words, node, field).wrapping_add(1);
     set_word(node_words, node, field, more);
 }
 
 // A pattern's run of tokens is put in, and its end counts it.
-fn insert_line(node_words: &mut [u32], nodes: usize, text: &[u8]) -> Ended
-    requires { (0 < nodes) × (nodes * words_per_node ≤ length node_words.old) }
-    ensures { (ended_as result node_words.new
-        ≡ line_in (growth nodes node_words.old []) (line_of fnv (tokens text.now) 0))
-        × EndFits result (length node_words.old) }
+fn insert_line(node_words: &mut [u32], nodes: usize, text: &[u8]) -> Result<Ended, PlaceError>
+    requires { HasNodes node_words.old nodes }
+    ensures line { ended_as result node_words.new
+        ≡ line_in (growth nodes node_words.old []) (line_of fnv (tokens text.now) 0) }
+    ensures fits { IfOk result (EndFits (length node_words.old)) }
 {
-    match insert_pattern(node_words, nodes, text) {
-        Ended::At { node, tail, count } => {
-            count_end(node_words, wide(node), tail);
-            Ended::At { node, tail, count }
-        }
-        Ended::Full => Ended::Full,
-    }
+    let ended = insert_pattern(node_words, nodes, text)?;
+    count_end(node_words, ended.end);
+    Ok(ended)
 }
 
-// A number that stands for an end.
-fn end_number(node: u32, tail: bool) -> usize
-    ensures { end_of result ≡ end node tail }
-{
-    let twice = node as usize * 2;
-    if tail { twice + 1 } else { twice }
-}
-
-// First pass: each entry's run is put in, its end counts it and is noted.
-fn insert_entries(
-    words: &[usize],
-    count: usize,
-    store: &[u8],
+// First pass: each entry's run is put in, its end counts it and is noted. The answer is the node count.
+fn insert_entries<F: EntryForm>(
+    list: &Listing<'_, F>,
     node_words: &mut [u32],
-    ends: &mut [usize],
-) -> Grown
-    requires { (entry_numbers * count ≤ length words.now)
-        × (count ≤ length ends.old)
-        × (words_per_node ≤ length node_words.old)
-        × (bad_entries store.now 0 (unflat count words.now) ≡ none) }
-    ensures { (grown_as result node_words.new (ends_of count ends.new)
-        ≡ lines_in (growth 1 node_words.old [])
-        (lines_of store.now (unflat count words.now)))
-        × AllFit result count ends.new (length node_words.old) }
+    ends: &mut Ends,
+) -> Result<usize, PlaceError>
+    requires { words_per_node ≤ length node_words.old }
+    ensures lines { grown_as result node_words.new (ends_of (length list.now.entries) ends.new)
+        ≡ lines_in (growth 1 node_words.old []) (lines_of list.now.store list.now.entries) }
+    ensures fits { IfOk result (AllFit (length list.now.entries) ends.new (length node_words.old)) }
 {
-    let mut total = 1;
-    let mut i = 0;
-    while i < count {
-        let at = ENTRY_NUMBERS * i;
-        let from = words[at];
-        let to = from + words[at + 1];
-        match insert_line(node_words, total, &store[from..to]) {
-            Ended::At {
-                node,
-                tail,
-                count: n,
-            } => {
-                ends[i] = end_number(node, tail);
-                total = n;
-            }
-            Ended::Full => {
-                return Grown::Full;
-            }
-        }
-        i += 1;
+    let mut nodes = 1;
+    for i in 0..list.count() {
+        let ended = insert_line(node_words, nodes, list.text(i))?;
+        ends[i] = ended.end;
+        nodes = ended.count;
     }
-    Grown::Nodes(total)
+    Ok(nodes)
 }
 
 // The root, and the first pass.
-fn grow_table(
-    words: &[usize],
-    count: usize,
-    store: &[u8],
+fn grow_table<F: EntryForm>(
+    list: &Listing<'_, F>,
     node_words: &mut [u32],
-    ends: &mut [usize],
-) -> Grown
-    requires { (entry_numbers * count ≤ length words.now)
-        × (count ≤ length ends.old)
-        × (bad_entries store.now 0 (unflat count words.now) ≡ none) }
-    ensures { (grown_as result node_words.new (ends_of count ends.new)
-        ≡ all_in (unflat count words.now) store.now node_words.old)
-        × AllFit result count ends.new (length node_words.old) }
+    ends: &mut Ends,
+) -> Result<usize, PlaceError>
+    ensures all { grown_as result node_words.new (ends_of (length list.now.entries) ends.new)
+        ≡ all_in list.now.entries list.now.store node_words.old }
+    ensures fits { IfOk result (AllFit (length list.now.entries) ends.new (length node_words.old)) }
 {
-    match sublist_area::plant(node_words) {
-        Placed::At(_, _) => insert_entries(words, count, store, node_words, ends),
-        Placed::Full => Grown::Full,
-        Placed::Broken => Grown::Full,
-    }
+    sublist_area::plant(node_words)?;
+    insert_entries(list, node_words, ends)
 }
 
 // Whether two tokens are equal keys: both `*`, or literals of equal hash. A `>` is no key.
+#[tactic(auto, using(crate::proofs::Alike::same_hash), unfolding(crate::specs::Sharing::same_key))]
 fn same_key(s: &[u8], t: &[u8]) -> bool
     ensures { result ≡ same_key s.now t.now }
 {
-    if is_tail(s) {
+    if is_tail(s) || is_tail(t) {
         return false;
     }
-    if is_tail(t) {
-        return false;
+    if is_star(s) || is_star(t) {
+        return is_star(s) && is_star(t);
     }
-    if is_star(s) {
-        return is_star(t);
-    }
-    if is_star(t) {
-        return false;
-    }
-    if same_bytes(s, t) {
-        return true;
-    }
-    token_hash(t) == token_hash(s)
+    same_bytes(s, t) || token_hash(s) == token_hash(t)
 }
 
 // The number of keys that two patterns begin with alike.
@@ -335,67 +298,37 @@ fn shared_run(a: &[u8], b: &[u8]) -> usize
     ensures { result ≡ shared_by a.now b.now }
 {
     let mut shared = 0;
-    let mut i = 0;
-    let mut j = 0;
-    loop {
-        let Token::Part { start, end, next } = token_at(a, i) else {
-            return shared;
-        };
-        let Token::Part {
-            start: from,
-            end: to,
-            next: then,
-        } = token_at(b, j)
-        else {
-            return shared;
-        };
-        if !same_key(&a[start..end], &b[from..to]) {
+    for (s, t) in subject::new(a).zip(subject::new(b)) {
+        if !same_key(s, t) {
             return shared;
         }
         shared += 1;
-        i = next;
-        j = then;
     }
+    shared
 }
 
 // The most keys that a pattern begins with alike with one of the first i entries.
-fn longest_shared(text: &[u8], words: &[usize], i: usize, store: &[u8]) -> usize
-    requires { (entry_numbers * i ≤ length words.now)
-        × ((j : ℕ) → j < i → EntryWithin store.now words.now j) }
-    ensures { result ≡ longest store.now text.now (unflat i words.now) }
+#[tactic(auto, using(crate::proofs::OneMore::longest_none, crate::proofs::OneMore::longest_next))]
+fn longest_shared<F: EntryForm>(text: &[u8], list: &Listing<'_, F>, i: usize) -> usize
+    requires { i ≤ length list.now.entries }
+    ensures { result ≡ longest list.now.store text.now (take i list.now.entries) }
 {
     let mut most = 0;
-    let mut j = 0;
-    while j < i {
-        let at = ENTRY_NUMBERS * j;
-        let start = words[at];
-        let end = start + words[at + 1];
-        let n = shared_run(text, &store[start..end]);
-        if most < n {
-            most = n;
-        }
-        j += 1;
+    for j in 0..i {
+        most = most.max(shared_run(text, list.text(j)));
     }
     most
 }
 
 // How many nodes the entries need: the root, and for each entry its keys, less the longest run that it shares with an
 // earlier one. A pattern begins alike with itself by all its keys.
-fn nodes_needed(words: &[usize], count: usize, store: &[u8]) -> usize
-    requires { (count ≤ max_entries)
-        × (entry_numbers * count ≤ length words.now)
-        × (bad_entries store.now 0 (unflat count words.now) ≡ none) }
-    ensures { result ≡ needed store.now (unflat count words.now) }
+fn nodes_needed<F: EntryForm>(list: &Listing<'_, F>) -> usize
+    ensures { result ≡ needed list.now.store list.now.entries }
 {
     let mut needed = 1;
-    let mut i = 0;
-    while i < count {
-        let at = ENTRY_NUMBERS * i;
-        let start = words[at];
-        let end = start + words[at + 1];
-        let keys = shared_run(&store[start..end], &store[start..end]);
-        needed += keys - longest_shared(&store[start..end], words, i, store);
-        i += 1;
+    for i in 0..list.count() {
+        let text = list.text(i);
+        needed += shared_run(text, text) - longest_shared(text, list, i);
     }
     needed
 }
@@ -404,93 +337,77 @@ fn nodes_needed(words: &[usize], count: usize, store: &[u8]) -> usize
 fn worst_of(star: u32, literal: u32) -> usize
     ensures { result ≡ max 1 (star + literal) }
 {
-    let both = sum(star, literal);
-    if both == 0 {
-        return 1;
-    }
-    both
+    (star as usize + literal as usize).max(1)
 }
 
 // The worst case of a node; more than a word holds is the largest word.
 fn node_worst(node_words: &[u32], i: usize) -> u32
-    requires { i * words_per_node + words_per_node ≤ length node_words.now }
+    requires { HasNode node_words.now i }
     ensures { result ≡ node_worst node_words.now i }
 {
     let worst = worst_of(node_word(node_words, i, 4), node_word(node_words, i, 6));
-    if WORD <= worst {
-        return MAX_WORD;
-    }
-    worst as u32
+    worst.min(u32::MAX as usize) as u32
 }
 
 // A node's parent is told its worst case.
+#[tactic(auto, unfolding(sublist_rules::specs::Passes::told))]
 fn tell(node_words: &mut [u32], i: usize)
-    requires { i * words_per_node + words_per_node ≤ length node_words.old }
+    requires { HasNode node_words.old i }
     ensures { node_words.new
         ≡ told node_words.old i (word node_words.old i 12) }
 {
-    let parent = wide(node_word(node_words, i, 12));
+    let parent = node_word(node_words, i, 12) as usize;
     if i <= parent {
         return;
     }
     let worst = node_worst(node_words, i);
-    if wide(node_word(node_words, parent, 3)) == i {
+    if node_word(node_words, parent, 3) as usize == i {
         set_word(node_words, parent, 4, worst);
         return;
     }
-    let most = larger(wide(node_word(node_words, parent, 6)), wide(worst));
-    set_word(node_words, parent, 6, most as u32);
+    let most = node_word(node_words, parent, 6).max(worst);
+    set_word(node_words, parent, 6, most);
 }
 
 // Second pass: the worst case of each node, told to its parent; the answer is the root's.
+#[tactic(auto, using(crate::proofs::Turns::settle_on, crate::proofs::Turns::settle_end))]
 fn settle(node_words: &mut [u32], count: usize) -> usize
-    requires { (0 < count) × (count * words_per_node ≤ length node_words.old) }
+    requires { HasNodes node_words.old count }
     ensures { (node_words.new ≡ settled node_words.old (count - 1))
         × (result ≡ root_worst node_words.new) }
 {
-    let mut i = count - 1;
-    while 0 < i {
+    for i in (1..count).rev() {
         tell(node_words, i);
-        i -= 1;
     }
     worst_of(node_word(node_words, 0, 4), node_word(node_words, 0, 6))
 }
 
-// Where the targets of a node start, exact ones before `>` ones; its counts start again at 0.
-fn lay_node(node_words: &mut [u32], i: usize, from: u32)
-    requires { i * words_per_node + words_per_node ≤ length node_words.old }
-    ensures { node_words.new ≡ laid_at node_words.old i from }
+// Where the targets of a node start, exact ones before `>` ones; its counts start again at 0. The answer is where the
+// targets behind them start.
+#[tactic(auto, unfolding(sublist_rules::specs::Passes::laid_at))]
+fn lay_node(node_words: &mut [u32], i: usize, from: u32) -> u32
+    requires { HasNode node_words.old i }
+    ensures node { node_words.new ≡ laid_at node_words.old i from }
+    ensures behind { result ≡ (from + word node_words.old i 5 + word node_words.old i 7) % 4294967296 }
 {
-    let tails = std::num::wrapping_add_u32(from, node_word(node_words, i, 5));
+    let tails = from.wrapping_add(node_word(node_words, i, 5));
+    let behind = tails.wrapping_add(node_word(node_words, i, 7));
     set_word(node_words, i, 4, from);
     set_word(node_words, i, 5, 0);
     set_word(node_words, i, 6, tails);
     set_word(node_words, i, 7, 0);
-}
-
-// Where the targets behind those of a node start.
-fn after(from: u32, exact: u32, tails: u32) -> u32
-    ensures { result ≡ (from + exact + tails) % 4294967296 }
-{
-    ((from as usize + exact as usize + tails as usize) % WORD) as u32
+    behind
 }
 
 // Third pass: the nodes' targets, one node behind the other.
+#[tactic(auto, using(crate::proofs::Turns::lay_on, crate::proofs::Turns::lay_end))]
 fn lay(node_words: &mut [u32], count: usize)
-    requires { count * words_per_node ≤ length node_words.old }
+    requires { HasNodes node_words.old count }
     ensures { node_words.new ≡ laid node_words.old 0 count 0 }
 {
-    let mut i = 0;
     let mut from = 0;
-    while i < count {
-        let next = after(
-            from,
-            node_word(node_words, i, 5),
-            node_word(node_words, i, 7),
-        );
-        lay_node(node_words, i, from);
-        from = next;
-        i += 1;
+    for i in 0..count {
+        from = lay_node(node_words, i, from);
     }
 }
 
@@ -498,177 +415,97 @@ fn lay(node_words: &mut [u32], count: usize)
 fn put_at(target_words: &mut [u32], at: usize, target: u32)
     ensures { target_words.new ≡ slice_set target_words.old at target }
 {
-    if target_words.len() <= at {
-        return;
+    if at < target_words.len() {
+        target_words[at] = target;
     }
-    target_words[at] = target;
 }
 
 // A target is put behind those that its end has.
-fn put_target(
-    node_words: &mut [u32],
-    target_words: &mut [u32],
-    node: usize,
-    tail: bool,
-    target: u32,
-)
-    requires { node * words_per_node + words_per_node ≤ length node_words.old }
+#[tactic(auto, unfolding(sublist_rules::specs::Passes::filled_by))]
+fn put_target(node_words: &mut [u32], target_words: &mut [u32], end: LineEnd, target: u32)
+    requires { HasNode node_words.old end.node }
     ensures { filling node_words.new target_words.new
-        ≡ filled_by (filling node_words.old target_words.old) (end node tail) target }
+        ≡ filled_by (filling node_words.old target_words.old) (end_of end) target }
 {
-    let start = node_word(node_words, node, start_word(tail));
-    let count = node_word(node_words, node, count_word(tail));
-    put_at(target_words, sum(start, count), target);
-    count_end(node_words, node, tail);
+    let node = end.node as usize;
+    let start = node_word(node_words, node, start_word(end.tail));
+    let count = node_word(node_words, node, count_word(end.tail));
+    put_at(target_words, start as usize + count as usize, target);
+    count_end(node_words, end);
 }
 
 // Fourth pass: each entry's target is put behind those that its end has.
-fn put_targets(
-    words: &[usize],
-    count: usize,
+#[tactic(auto, using(crate::proofs::Turns::fill_on, crate::proofs::Turns::fill_end))]
+fn put_targets<F: EntryForm>(
+    list: &Listing<'_, F>,
     node_words: &mut [u32],
     target_words: &mut [u32],
-    ends: &[usize],
+    ends: &Ends,
 )
-    requires { (entry_numbers * count ≤ length words.now)
-        × (count ≤ length ends.now)
-        × EndBelow count ends.now (length node_words.old / words_per_node) }
+    requires { EndBelow (length list.now.entries) ends.now (length node_words.old / words_per_node) }
     ensures { filling node_words.new target_words.new
         ≡ filled (filling node_words.old target_words.old)
-        (ends_of count ends.now) (targets_of (unflat count words.now)) }
+        (ends_of (length list.now.entries) ends.now) (targets_of list.now.entries) }
 {
-    let mut i = 0;
-    while i < count {
-        let end = ends[i];
-        let target = (words[ENTRY_NUMBERS * i + 2] % WORD) as u32;
-        put_target(node_words, target_words, end / 2, end % 2 == 1, target);
-        i += 1;
+    for i in 0..list.count() {
+        put_target(node_words, target_words, ends[i], list.target(i));
     }
 }
 
 // 15, 16, and the other passes, over so many nodes.
-fn finish(
-    words: &[usize],
-    count: usize,
+fn finish<F: EntryForm>(
+    list: &Listing<'_, F>,
     node_words: &mut [u32],
     target_words: &mut [u32],
-    ends: &[usize],
-    total: usize,
+    ends: &Ends,
+    nodes: usize,
     generation: u64,
-) -> Built
-    requires { (entry_numbers * count ≤ length words.now)
-        × (count ≤ length ends.now)
-        × (0 < total)
-        × (total * words_per_node ≤ length node_words.old)
-        × EndBelow count ends.now (length node_words.old / words_per_node) }
+) -> Result<Built, SublistError>
+    requires { AllFit (length list.now.entries) ends.now (length node_words.old) nodes }
     ensures { built result node_words.new target_words.new
-        ≡ finish_by count 0 (targets_of (unflat count words.now)) target_words.old generation
-        (growth total node_words.old (ends_of count ends.now)) }
+        ≡ finish_by list.now.entries 0 target_words.old generation
+        (growth nodes node_words.old (ends_of (length list.now.entries) ends.now)) }
 {
-    if target_words.len() < count {
-        return Built::Refused(SublistError::TargetsFull);
+    if target_words.len() < list.count() {
+        return Err(SublistError::TargetsFull);
     }
-    let worst_case = settle(node_words, total);
+    let worst_case = settle(node_words, nodes);
     if MAX_FORK_FRONTIER < worst_case {
-        return Built::Refused(SublistError::ForkLimitExceeded {
+        return Err(SublistError::ForkLimitExceeded {
             worst_case,
             limit: MAX_FORK_FRONTIER,
         });
     }
-    lay(node_words, total);
-    put_targets(words, count, node_words, target_words, ends);
-    Built::Table {
-        nodes: total,
+    lay(node_words, nodes);
+    put_targets(list, node_words, target_words, ends);
+    Ok(Built {
+        nodes,
         worst_case,
         generation,
-    }
+    })
 }
 
-// Build, of the entries' numbers, three for each: 10, 12 and 13, 14, then the rest.
-fn build_words(
-    words: &[usize],
-    count: usize,
-    store: &[u8],
-    node_words: &mut [u32],
-    target_words: &mut [u32],
-    ends: &mut [usize],
-    generation: u64,
-) -> Built
-    requires { (entry_numbers * min count max_entries ≤ length words.now)
-        × (max_entries ≤ length ends.old) }
-    ensures { built result node_words.new target_words.new
-        ≡ core_into count (unflat count words.now) store.now
-        node_words.old target_words.old generation }
-{
-    if MAX_ENTRIES < count {
-        return Built::Refused(SublistError::EntriesFull);
-    }
-    match check_entries(words, count, store) {
-        EntryCheck::Bad(e) => Built::Refused(e),
-        EntryCheck::Sound => match grow_table(words, count, store, node_words, ends) {
-            Grown::Full => Built::Refused(SublistError::NodesFull(nodes_needed(
-                words, count, store,
-            ))),
-            Grown::Nodes(total) => finish(
-                words,
-                count,
-                node_words,
-                target_words,
-                ends,
-                total,
-                generation,
-            ),
-        },
-    }
-}
-
-// The numbers of the first n entries, three for each, are put at the start of the words; what lies behind stays.
-fn unpack(entries: &[Entry], n: usize, words: &mut [usize])
-    requires { (n ≤ length entries.now) × (entry_numbers * n ≤ length words.old) }
-    ensures { words.new
-        ≡ flat (take n entries.now) ++ drop (entry_numbers * n) words.old }
-{
-    let mut i = 0;
-    while i < n {
-        put_entry(words, i, entries[i]);
-        i += 1;
-    }
-}
-
-// How many of so many entries are taken apart: no more than a list may have.
-fn least(entries: usize) -> usize
-    ensures { result ≡ min entries max_entries }
-{
-    if entries <= MAX_ENTRIES {
-        return entries;
-    }
-    MAX_ENTRIES
-}
-
-// The same, with room of its own for where the patterns end.
-fn build_numbers(
-    words: &mut [usize],
-    count: usize,
+// The table of a list of either form: 10, 12 and 13, 14, then the rest.
+fn build_list<F: EntryForm>(
+    entries: &[F],
     store: &[u8],
     node_words: &mut [u32],
     target_words: &mut [u32],
     generation: u64,
-) -> Built
-    requires { entry_numbers * max_entries ≤ length words.old }
+) -> Result<Built, SublistError>
     ensures { built result node_words.new target_words.new
-        ≡ core_into count (unflat count words.old) store.now
+        ≡ build_into (F.entries entries.now) store.now
         node_words.old target_words.old generation }
 {
-    let mut ends = [0usize; MAX_ENTRIES];
-    build_words(
-        words,
-        count,
-        store,
-        node_words,
-        target_words,
-        &mut ends,
-        generation,
-    )
+    let list = Listing::new(entries, store)?;
+    let mut ends = [LineEnd {
+        node: 0,
+        tail: false,
+    }; MAX_ENTRIES];
+    let Ok(nodes) = grow_table(&list, node_words, &mut ends) else {
+        return Err(SublistError::NodesFull(nodes_needed(&list)));
+    };
+    finish(&list, node_words, target_words, &ends, nodes, generation)
 }
 
 // The table of a list of entries, all of it: its nodes and targets go into the words lent for them.
@@ -678,22 +515,12 @@ pub fn build(
     node_words: &mut [u32],
     target_words: &mut [u32],
     generation: u64,
-) -> Built
+) -> Result<Built, SublistError>
     ensures { built result node_words.new target_words.new
         ≡ build_into entries.now store.now
         node_words.old target_words.old generation }
 {
-    let mut words = [0usize; ENTRY_NUMBERS * MAX_ENTRIES];
-    let n = least(entries.len());
-    unpack(entries, n, &mut words);
-    build_numbers(
-        &mut words,
-        entries.len(),
-        store,
-        node_words,
-        target_words,
-        generation,
-    )
+    build_list(entries, store, node_words, target_words, generation)
 }
 
 // The same as `build`, of a list lent as plain numbers, all whole threes of it.
@@ -703,19 +530,10 @@ pub fn build_from_numbers(
     node_words: &mut [u32],
     target_words: &mut [u32],
     generation: u64,
-) -> Built
+) -> Result<Built, SublistError>
     ensures { built result node_words.new target_words.new
         ≡ build_into (entries_in words.now) store.now
         node_words.old target_words.old generation }
 {
-    let mut ends = [0usize; MAX_ENTRIES];
-    build_words(
-        words,
-        words.len() / ENTRY_NUMBERS,
-        store,
-        node_words,
-        target_words,
-        &mut ends,
-        generation,
-    )
+    build_list(words, store, node_words, target_words, generation)
 }

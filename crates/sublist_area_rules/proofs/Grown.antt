@@ -9,13 +9,15 @@ use mathlib.Core.List.{List, [], ◌∷◌}
 use lib.Dec.{eqb}
 use lib.ListN.{length, get_or}
 use borrow.Author.Tests.{eq-eqb, ne_eqb}
+use Rattle.std.specs.Prelude.{Result, Err}
 use Rattle.sublist_tree.specs.Tree.{Key}
 use Rattle.sublist_trie.proofs.Trie.{Trie, grow, size, child, ins_t}
 use Rattle.sublist_trie.proofs.Runs.{pick_ind, child_less}
 use Rattle.sublist_area_rules.specs.declared.Placed.{Placed}
-use Rattle.sublist_area_rules.specs.declared.Placed.TheVariants.{At, Full}
+use Rattle.sublist_area_rules.specs.declared.PlaceError.{PlaceError}
+use Rattle.sublist_area_rules.specs.declared.PlaceError.TheVariants.{Full}
 use Rattle.sublist_area_rules.specs.Words.{Met, word}
-use Rattle.sublist_area_rules.specs.Growing.{hash_of}
+use Rattle.sublist_area_rules.specs.Growing.{hash_of, placed_at}
 use Rattle.sublist_area_rules.proofs.AnyKeys.{hashed, child_or_new_by, onward_by, grown_by}
 use Rattle.sublist_area_rules.proofs.Places.{place, NoLink, place_less, place_else}
 use Rattle.sublist_area_rules.proofs.Rep.{Keys, Written, RepBy}
@@ -52,8 +54,8 @@ module _ {K : Type 0} where
   Fits a u = (size u * 16 ≤ length a) × (size u < 2 ^ 32)
 
 -- there was no room
-abbrev pub NoRoom : List ℕ → Placed × List ℕ → Type 0
-NoRoom a s = (b : List ℕ) × (s ≡ (Full, b)) × (length b ≡ length a)
+abbrev pub NoRoom : List ℕ → Result Placed PlaceError × List ℕ → Type 0
+NoRoom a s = (b : List ℕ) × (s ≡ (Err Full, b)) × (length b ≡ length a)
 
 module _ {K : Type 0} (eq : K → K → Bool) where
   pub ins_more : (ks : List (Key K)) (t : Trie K) (i : ℕ) → size t ≤ size (ins_t eq t i ks).0
@@ -66,11 +68,11 @@ module _ {K : Type 0} (eq : K → K → Bool) where
 
 module _ {K : Type 0} (eq : K → K → Bool) (hash : K → ℕ) (Named : List ℕ → ℕ → K → Type 0) where
   -- s is what a run that ends with the history and the node v made of the area a, which held t
-  abbrev pub PutInBy : List ℕ → Trie K → Placed × List ℕ → Trie K × ℕ → Type 0
-  PutInBy a t s v = (b : List ℕ) × (s ≡ (At v.1 (size v.0), b)) × GrewBy eq hash Named a t b v.0
+  abbrev pub PutInBy : List ℕ → Trie K → Result Placed PlaceError × List ℕ → Trie K × ℕ → Type 0
+  PutInBy a t s v = (b : List ℕ) × (s ≡ (placed_at v.1 (size v.0), b)) × GrewBy eq hash Named a t b v.0
 
   -- what a run comes to
-  abbrev pub RunEndsBy : List ℕ → Trie K → Placed × List ℕ → Trie K × ℕ → Type 0
+  abbrev pub RunEndsBy : List ℕ → Trie K → Result Placed PlaceError × List ℕ → Trie K × ℕ → Type 0
   RunEndsBy a t s v = (Fits a v.0 × PutInBy a t s v) ⊎ ((Fits a v.0 → ⊥) × NoRoom a s)
 
 module _ {K : Type 0} {eq : K → K → Bool} {hash : K → ℕ} {test : List ℕ → K → ℕ → Met} {Named : List ℕ → ℕ → K → Type 0} (L : Keys eq hash test Named) (written : Written hash Named) where
@@ -129,14 +131,14 @@ module _ {K : Type 0} {eq : K → K → Bool} {hash : K → ℕ} {test : List �
 
   -- ---- a run of keys
 
-  full_stays : (a : List ℕ) (ks : List (Key K)) → grown_by test hash (Full, a) ks ≡ (Full, a)
+  full_stays : (a : List ℕ) (ks : List (Key K)) → grown_by test hash (Err Full, a) ks ≡ (Err Full, a)
   unfolding grown_by onward_by
   full_stays a [] = refl
   full_stays a (k ∷ ks) = full_stays a ks
 
   -- one key of a run
   module _ (a : List ℕ) (t : Trie K) (i : ℕ) (k : Key K) (ks : List (Key K)) where
-    on_area : (s : Placed × List ℕ) → child_or_new_by test hash a (size t) i k ≡ s → grown_by test hash (At i (size t), a) (k ∷ ks) ≡ grown_by test hash s ks
+    on_area : (s : Result Placed PlaceError × List ℕ) → child_or_new_by test hash a (size t) i k ≡ s → grown_by test hash (placed_at i (size t), a) (k ∷ ks) ≡ grown_by test hash s ks
     unfolding grown_by onward_by
     on_area s e = ap (λ x. grown_by test hash x ks) e
 
@@ -150,14 +152,14 @@ module _ {K : Type 0} {eq : K → K → Bool} {hash : K → ℕ} {test : List �
 
   module _ (a : List ℕ) (t : Trie K) (i : ℕ) (k : Key K) (ks : List (Key K)) (r : RepBy eq hash Named a t) (h : i < size t) where
     -- by way of the first key's outcome s, the history and the node v
-    via : (s : Placed × List ℕ) (v : Trie K × ℕ) → child_or_new_by test hash a (size t) i k ≡ s → ins_t eq t i (k ∷ ks) ≡ v → RunEndsBy eq hash Named a t (grown_by test hash s ks) v
-        → RunEndsBy eq hash Named a t (grown_by test hash (At i (size t), a) (k ∷ ks)) (ins_t eq t i (k ∷ ks))
+    via : (s : Result Placed PlaceError × List ℕ) (v : Trie K × ℕ) → child_or_new_by test hash a (size t) i k ≡ s → ins_t eq t i (k ∷ ks) ≡ v → RunEndsBy eq hash Named a t (grown_by test hash s ks) v
+        → RunEndsBy eq hash Named a t (grown_by test hash (placed_at i (size t), a) (k ∷ ks)) (ins_t eq t i (k ∷ ks))
     via s v e q o =
         subst (λ s. RunEndsBy eq hash Named a t s (ins_t eq t i (k ∷ ks))) (sym (on_area a t i k ks s e)) (subst (RunEndsBy eq hash Named a t (grown_by test hash s ks)) (sym q) o)
 
     module _ (z : child eq t i k ≡ 0) where
       -- there is no room for the child
-      full : length a < size t * 16 + 16 ⊎ (4294967295 ≤ size t) → RunEndsBy eq hash Named a t (grown_by test hash (Full, a) ks) (ins_t eq (grow t i k) (size t) ks)
+      full : length a < size t * 16 + 16 ⊎ (4294967295 ≤ size t) → RunEndsBy eq hash Named a t (grown_by test hash (Err Full, a) ks) (ins_t eq (grow t i k) (size t) ks)
       unfolding size
       full l = inr (clash l, (a, full_stays a ks, refl))
         where
@@ -166,7 +168,7 @@ module _ {K : Type 0} {eq : K → K → Bool} {hash : K → ℕ} {test : List �
           clash (inr l) w = let more = ins_more eq ks (grow t i k) (size t) in omega arith
 
       -- it is made
-      made : (room : size t * 16 + 16 ≤ length a) (v : Trie K × ℕ) (s : Placed × List ℕ)
+      made : (room : size t * 16 + 16 ≤ length a) (v : Trie K × ℕ) (s : Result Placed PlaceError × List ℕ)
           → RunEndsBy eq hash Named (with_child hash a t i k) (grow t i k) s v → RunEndsBy eq hash Named a t s v
       made room v s (inl w) =
           let grew = step_grew a t i k r h z room in
@@ -179,7 +181,7 @@ module _ {K : Type 0} {eq : K → K → Bool} {hash : K → ℕ} {test : List �
 
   -- the run fits and is put in, or it does not and there is no room: nothing else
   pub grown_all : (ks : List (Key K)) (a : List ℕ) (t : Trie K) (i : ℕ) → RepBy eq hash Named a t → i < size t → size t < 2 ^ 32
-      → RunEndsBy eq hash Named a t (grown_by test hash (At i (size t), a) ks) (ins_t eq t i ks)
+      → RunEndsBy eq hash Named a t (grown_by test hash (placed_at i (size t), a) ks) (ins_t eq t i ks)
   unfolding ins_t grown_by size
   grown_all [] a t i r h w = inl ((r.room, w), (a, refl, grew_none a t r))
   grown_all (k ∷ ks) a t i r h w =
@@ -188,10 +190,10 @@ module _ {K : Type 0} {eq : K → K → Bool} {hash : K → ℕ} {test : List �
       (λ rep l. grown_all ks (with_child hash a t i k) (grow t i k) (size t) rep (omega arith) l)
     where
       go : Dec (child eq t i k ≡ 0) → Dec (length a < size t * 16 + 16) → Dec (size t < 4294967295)
-          → RunEndsBy eq hash Named a t (grown_by test hash (At (child eq t i k) (size t), a) ks) (ins_t eq t (child eq t i k) ks)
+          → RunEndsBy eq hash Named a t (grown_by test hash (placed_at (child eq t i k) (size t), a) ks) (ins_t eq t (child eq t i k) ks)
           → (RepBy eq hash Named (with_child hash a t i k) (grow t i k) → suc (size t) < 2 ^ 32
-          → RunEndsBy eq hash Named (with_child hash a t i k) (grow t i k) (grown_by test hash (At (size t) (suc (size t)), with_child hash a t i k) ks) (ins_t eq (grow t i k) (size t) ks))
-          → RunEndsBy eq hash Named a t (grown_by test hash (At i (size t), a) (k ∷ ks)) (ins_t eq t i (k ∷ ks))
+          → RunEndsBy eq hash Named (with_child hash a t i k) (grow t i k) (grown_by test hash (placed_at (size t) (suc (size t)), with_child hash a t i k) ks) (ins_t eq (grow t i k) (size t) ks))
+          → RunEndsBy eq hash Named a t (grown_by test hash (placed_at i (size t), a) (k ∷ ks)) (ins_t eq t i (k ∷ ks))
       go (no n) p q old new = via a t i k ks r h _ _ (step_there L a t i k r h n) (on_there a t i k ks n) old
       go (yes z) (yes p) q old new = via a t i k ks r h _ _ (step_full L a t i k r h z (inl p)) (on_new a t i k ks z) (full a t i k ks r h z (inl p))
       go (yes z) (no p) (no q) old new =
@@ -200,24 +202,24 @@ module _ {K : Type 0} {eq : K → K → Bool} {hash : K → ℕ} {test : List �
       go (yes z) (no p) (yes q) old new =
           let room : size t * 16 + 16 ≤ length a = omega arith in
           let v = ins_t eq (grow t i k) (size t) ks in
-          let s = grown_by test hash (At (size t) (suc (size t)), with_child hash a t i k) ks in
+          let s = grown_by test hash (placed_at (size t) (suc (size t)), with_child hash a t i k) ks in
           via a t i k ks r h _ _ (step-new L a t i k r h z room q) (on_new a t i k ks z)
           (made a t i k ks r h z room v s (new (step_grew a t i k r h z room).rep (omega arith)))
 
   -- a run that fits is put in
   pub grown_rep : (ks : List (Key K)) (a : List ℕ) (t : Trie K) (i : ℕ) → RepBy eq hash Named a t → i < size t → Fits a (ins_t eq t i ks).0
-      → PutInBy eq hash Named a t (grown_by test hash (At i (size t), a) ks) (ins_t eq t i ks)
+      → PutInBy eq hash Named a t (grown_by test hash (placed_at i (size t), a) ks) (ins_t eq t i ks)
   grown_rep ks a t i r h w = let more = ins_more eq ks t i in go (grown_all ks a t i r h (omega arith))
     where
-      go : RunEndsBy eq hash Named a t (grown_by test hash (At i (size t), a) ks) (ins_t eq t i ks) → PutInBy eq hash Named a t (grown_by test hash (At i (size t), a) ks) (ins_t eq t i ks)
+      go : RunEndsBy eq hash Named a t (grown_by test hash (placed_at i (size t), a) ks) (ins_t eq t i ks) → PutInBy eq hash Named a t (grown_by test hash (placed_at i (size t), a) ks) (ins_t eq t i ks)
       go (inl o) = o.1
       go (inr o) = absurd (o.0 w)
 
   -- and one that does not is turned back
   pub grown_full : (ks : List (Key K)) (a : List ℕ) (t : Trie K) (i : ℕ) → RepBy eq hash Named a t → i < size t → size t < 2 ^ 32 → (Fits a (ins_t eq t i ks).0 → ⊥)
-      → NoRoom a (grown_by test hash (At i (size t), a) ks)
+      → NoRoom a (grown_by test hash (placed_at i (size t), a) ks)
   grown_full ks a t i r h l w = go (grown_all ks a t i r h l)
     where
-      go : RunEndsBy eq hash Named a t (grown_by test hash (At i (size t), a) ks) (ins_t eq t i ks) → NoRoom a (grown_by test hash (At i (size t), a) ks)
+      go : RunEndsBy eq hash Named a t (grown_by test hash (placed_at i (size t), a) ks) (ins_t eq t i ks) → NoRoom a (grown_by test hash (placed_at i (size t), a) ks)
       go (inl o) = absurd (w o.0)
       go (inr o) = o.1

@@ -6,13 +6,14 @@ use mathlib.Core.List.{List, [], ◌∷◌}
 use lib.Dec.{eqb}
 use lib.ListN.{length, set}
 use borrow.Author.Tests.{eqb-true, eq-eqb, ne_eqb}
+use Rattle.std.specs.Prelude.{Result, Ok, Err}
 use Rattle.sublist_tree.specs.Tree.{Key, star, lit}
 use Rattle.sublist_trie.proofs.Trie.{Trie, root, size, child, ins_t}
 use Rattle.sublist_area_rules.specs.declared.Child.TheVariants.{Node, Missing}
 use Rattle.sublist_area_rules.specs.declared.Placed.{Placed}
-use Rattle.sublist_area_rules.specs.declared.Placed.TheVariants.{At, Full, Broken}
+use Rattle.sublist_area_rules.specs.declared.PlaceError.{PlaceError}
 use Rattle.sublist_area_rules.specs.Words.{told, word, by_hash, literal_child, child_of}
-use Rattle.sublist_area_rules.specs.Growing.{planted, child_or_new, onward, grown}
+use Rattle.sublist_area_rules.specs.Growing.{planted, placed_at, child_or_new, onward, grown}
 use Rattle.sublist_area_rules.proofs.AnyKeys.{sought, child_by, child_or_new_by, onward_by, grown_by}
 use Rattle.sublist_area_rules.proofs.Places.{eqb_same, place}
 use Rattle.sublist_area_rules.proofs.Rep.{Keys, Written, RepBy}
@@ -64,13 +65,12 @@ module _ (a : List ℕ) (n i : ℕ) where
   same_new star = refl
   same_new (lit h) = refl
 
-same-onward : (p : Placed) (a : List ℕ) (k : Key ℕ) → onward_by by_hash itself p a k ≡ onward p a k
+same-onward : (p : Result Placed PlaceError) (a : List ℕ) (k : Key ℕ) → onward_by by_hash itself p a k ≡ onward p a k
 unfolding onward_by onward
-same-onward (At i n) a k = same_new a n i k
-same-onward Full a k = refl
-same-onward Broken a k = refl
+same-onward (Ok p) a k = same_new a p.count p.node k
+same-onward (Err e) a k = refl
 
-pub same-grown : (ks : List (Key ℕ)) (s : Placed × List ℕ) → grown_by by_hash itself s ks ≡ grown s ks
+pub same-grown : (ks : List (Key ℕ)) (s : Result Placed PlaceError × List ℕ) → grown_by by_hash itself s ks ≡ grown s ks
 unfolding grown_by grown
 same-grown [] s = refl
 same-grown (k ∷ ks) s = same-grown ks (onward_by by_hash itself s.0 s.1 k) ∙ ap (λ x. grown x ks) (same-onward s.0 s.1 k)
@@ -99,16 +99,16 @@ rep_root = step.rep_root hashes
 abbrev pub Grew : List ℕ → Trie ℕ → List ℕ → Trie ℕ → Type 0
 Grew a t b u = GrewBy eqb itself Unnamed a t b u
 
-abbrev pub PutIn : List ℕ → Trie ℕ → Placed × List ℕ → Trie ℕ × ℕ → Type 0
+abbrev pub PutIn : List ℕ → Trie ℕ → Result Placed PlaceError × List ℕ → Trie ℕ × ℕ → Type 0
 PutIn a t s v = PutInBy eqb itself Unnamed a t s v
 
-abbrev pub RunEnds : List ℕ → Trie ℕ → Placed × List ℕ → Trie ℕ × ℕ → Type 0
+abbrev pub RunEnds : List ℕ → Trie ℕ → Result Placed PlaceError × List ℕ → Trie ℕ × ℕ → Type 0
 RunEnds a t s v = RunEndsBy eqb itself Unnamed a t s v
 
 pub ins_more : (ks : List (Key ℕ)) (t : Trie ℕ) (i : ℕ) → size t ≤ size (ins_t eqb t i ks).0
 ins_more = run.ins_more eqb
 
 pub grown_all : (ks : List (Key ℕ)) (a : List ℕ) (t : Trie ℕ) (i : ℕ) → Rep a t → i < size t → size t < 2 ^ 32
-    → RunEnds a t (grown (At i (size t), a) ks) (ins_t eqb t i ks)
+    → RunEnds a t (grown (placed_at i (size t), a) ks) (ins_t eqb t i ks)
 grown_all ks a t i r h w =
-    subst (λ s. RunEnds a t s (ins_t eqb t i ks)) (same-grown ks (At i (size t), a)) (run.grown_all hashes hash_written ks a t i r h w)
+    subst (λ s. RunEnds a t s (ins_t eqb t i ks)) (same-grown ks (placed_at i (size t), a)) (run.grown_all hashes hash_written ks a t i r h w)

@@ -45,7 +45,7 @@ module _ {K : Type 0} {eq : K → K → Bool} {hash : K → ℕ} {test : List �
         let less : v < size t = rw u at (link_less hash t x) in
         let ih = seek_passes h w (r.nexts v (q % 4) less (omega arith)) (f - 1) (omega arith) in
         let miss = met_by v less h g k ∙ ap told (apart g h d) in
-        let one = at_next (test a h) a (size t) (seek (test a h) a (size t) q f x) q f x v refl (sym u ∙ sym e) (λ z. omega arith) n less miss in
+        let one = at_next (test a h) a (size t) (seek (test a h) a (size t) q f x) q f x v refl (sym u ∙ sym e) (f - 1) (omega arith) n less miss in
         let m : f - 1 - s ≡ f - suc s = omega arith in
         (one ∙ rw (← m) ih.0, ih.1)
 
@@ -77,7 +77,7 @@ module _ {K : Type 0} {eq : K → K → Bool} {hash : K → ℕ} {test : List �
                   (sym
                   (at-hit (test a h) a (size t) (seek (test a h) a (size t) s.left (size t - s.steps) s.word) s.left (size t - s.steps) s.word c refl
                   (sym w.1 ∙ sym u.1)
-                  (λ z. omega arith)
+                  (size t - s.steps - 1) (omega arith)
                   w.0
                   less
                   (met_by c less h h w.2 ∙ ap told (L.whole h))))

@@ -1,12 +1,17 @@
 -- Reading after a run of stores, and the words of an area after `added` and `planted`.
-use Prim.Native.Nat.{ℕ, zero, suc, ◌+◌, ◌*◌, ◌/◌, ◌%◌, ◌≤◌, ◌<◌}
+use Prim.Native.Nat.{ℕ, zero, suc, ◌+◌, ◌*◌, ◌≤◌, ◌<◌}
 use native.Mathlib.Nat.{add-zero, zero-add, add-suc, suc-add}
 use native.Mathlib.Omega.{arith}
-use mathlib.Core.Path.{◌≡◌, refl, ◌∙◌, ap}
-use mathlib.Core.List.{List, [], ◌∷◌, ◌++◌}
-use lib.ListN.{length, get_or, set, length-set, replicate}
-use lib.Seq.{sets, length-sets, get_or-set_same, get_or-set_other}
-use Rattle.sublist_area_rules.specs.Growing.{fresh, cleared, added, planted}
+use mathlib.Core.Path.{◌≡◌, refl, sym, ◌∙◌, ap}
+use mathlib.Core.List.{List, [], ◌∷◌, ◌++◌, append_assoc}
+use lib.ListN.{length, get_or, set, length-set, replicate, take, drop}
+use lib.Seq.{sets, length-sets, get_or-set_same, get_or-set_other, drop-drop}
+use borrow.Rule.Slice.PartMut.{put_mid}
+use borrow.Author.Tests.{lt-ltb, le-ltb}
+use Rattle.std.proofs.lemmas.List.Edits.{sets-eq}
+use Rattle.std.specs.Prelude.{Err}
+use Rattle.sublist_area_rules.specs.declared.PlaceError.TheVariants.{Full}
+use Rattle.sublist_area_rules.specs.Growing.{fresh, added, planted, placed_at, rooted}
 
 pub sets_below : (vs l : List ℕ) (i j : ℕ) → j < i → get_or (sets l i vs) j 0 ≡ get_or l j 0
 sets_below [] l i j h = refl
@@ -23,29 +28,11 @@ sets-at (v ∷ vs) l i zero h k =
 sets-at (v ∷ vs) l i (suc j) h k =
     rw (add-suc, ← suc-add) (sets-at vs (set l i v) (suc i) j (omega arith) (rw length-set (omega arith)))
 
-set_twice : (l : List ℕ) (i v w : ℕ) → set (set l i v) i w ≡ set l i w
-set_twice [] i v w = refl
-set_twice (x ∷ xs) zero v w = refl
-set_twice (x ∷ xs) (suc i) v w = ap (λ r. x ∷ r) (set_twice xs i v w)
-
-set-swap : (l : List ℕ) (i j v w : ℕ) → j < i → set (set l i v) j w ≡ set (set l j w) i v
-set-swap [] i j v w h = refl
-set-swap (x ∷ xs) zero j v w h = absurd (omega arith)
-set-swap (x ∷ xs) (suc i) zero v w h = refl
-set-swap (x ∷ xs) (suc i) (suc j) v w h = ap (λ r. x ∷ r) (set-swap xs i j v w (omega arith))
-
-set_before : (vs l : List ℕ) (i j v : ℕ) → j < i → set (sets l i vs) j v ≡ sets (set l j v) i vs
-set_before [] l i j v h = refl
-set_before (w ∷ vs) l i j v h =
-    set_before vs (set l i w) (suc i) j v (omega arith) ∙ ap (λ m. sets m (suc i) vs) (set-swap l i j w v h)
-
--- a store into a run of stores
-pub set-within : (vs l : List ℕ) (i k v : ℕ) → k < length vs → set (sets l i vs) (i + k) v ≡ sets l i (set vs k v)
-set-within [] l i k v h = absurd (omega arith)
-set-within (w ∷ vs) l i zero v h =
-    rw add-zero (set_before vs (set l i w) (suc i) i v (omega arith) ∙ ap (λ m. sets m (suc i) vs) (set_twice l i w v))
-set-within (w ∷ vs) l i (suc k) v h =
-    rw (add-suc, ← suc-add) (set-within vs (set l i w) (suc i) k v (omega arith))
+-- a run of words that is put in at once
+pub sets_put : (vs l : List ℕ) (i k : ℕ) → k ≡ length vs → i + k ≤ length l → put_mid i k l vs ≡ sets l i vs
+sets_put vs l i k e h =
+    ap (λ m. take i l ++ (vs ++ m)) (drop-drop k i l ∙ ap (λ n. drop (i + n) l) e) ∙ sym (append_assoc (take i l) vs _)
+    ∙ sym (sets-eq vs l i (omega arith))
 
 module _ (a : List ℕ) (n link h p : ℕ) (less : link < n * 16) (room : n * 16 + 16 ≤ length a) where
   -- the new node's words
@@ -71,24 +58,20 @@ module _ (a : List ℕ) (n link h p : ℕ) (less : link < n * 16) (room : n * 16
   added_behind x l =
       get_or-set_other (sets a (n * 16) (fresh h p)) link x n 0 (omega arith) ∙ sets_above (fresh h p) a (n * 16) x l
 
--- a node's words by three stores into words that are 0, and the link
-pub added_by : (a : List ℕ) (n link h p : ℕ)
-    → set (set (set (set (cleared a n) (n * 16) (h % 4294967296)) (n * 16 + 1) (h / 4294967296)) (n * 16 + 12) p) link n
-    ≡ added a n link h p
-unfolding added cleared
-added_by a n link h p =
-    let x = h % 4294967296 in
-    let y = h / 4294967296 in
-    let zs : List ℕ = replicate 16 0 in
-    let one : set (sets a (n * 16) zs) (n * 16) x ≡ sets a (n * 16) (set zs 0 x) = rw add-zero at (set-within zs a (n * 16) 0 x (omega arith)) in
-    let two = set-within (set zs 0 x) a (n * 16) 1 y (omega arith) in
-    let three = set-within (set (set zs 0 x) 1 y) a (n * 16) 12 p (omega arith) in
-    ap (λ m. set m link n) (ap (λ m. set (set m (n * 16 + 1) y) (n * 16 + 12) p) one ∙ ap (λ m. set m (n * 16 + 12) p) two ∙ three)
+-- a new node's words are put in at once, then the link
+pub added_by : (a : List ℕ) (n link h p k : ℕ) (vs : List ℕ) → vs ≡ fresh h p → k ≡ 16 → n * 16 + 16 ≤ length a
+    → set (put_mid (n * 16) k a vs) link n ≡ added a n link h p
+unfolding added
+added_by a n link h p k vs e s l = ap (λ m. set m link n) (rw (e, s) (sets_put (fresh h p) a (n * 16) 16 refl l))
 
--- the root alone is node 0, cleared
-pub planted_by : (a : List ℕ) → cleared a 0 ≡ planted a
-unfolding cleared planted
-planted_by a = refl
+-- and those of the root, where there is room
+pub rooted_by : (a vs : List ℕ) → vs ≡ fresh 0 0 → 16 ≤ length a → (placed_at 0 1, vs ++ drop 16 a) ≡ rooted a
+unfolding planted rooted
+rooted_by a vs e l = rw (le-ltb (length a) 16 l, e, sets-eq (fresh 0 0) a 0 l) refl
+
+pub rooted_short : (a : List ℕ) → length a < 16 → (Err Full, a) ≡ rooted a
+unfolding rooted
+rooted_short a l = rw (lt-ltb (length a) 16 l) refl
 
 pub length-added : (a : List ℕ) (n link h p : ℕ) → length (added a n link h p) ≡ length a
 unfolding added

@@ -10,6 +10,8 @@ use Rattle.subject_rules.specs.Text.{is_star}
 use Rattle.subject_rules.specs.Fnv.{fnv}
 use Rattle.sublist_area_rules.specs.declared.Child.{Child}
 use Rattle.sublist_area_rules.specs.declared.Child.TheVariants.{Node, Missing, Damaged}
+use Rattle.sublist_area_rules.specs.declared.ChildKey.{ChildKey}
+use Rattle.sublist_area_rules.specs.declared.ChildKey.TheVariants.{Star, Literal}
 use Rattle.sublist_tree.specs.Tree.{Key, star, lit}
 
 -- how many words a node takes
@@ -23,6 +25,11 @@ word a i f = get_or a (i * 16 + f) 0
 -- the key of a token that is no `>`
 abbrev pub token_key : List ℕ → Key ℕ
 token_key t = pick (is_star t) star (lit (fnv t))
+
+-- the key that a caller names
+abbrev pub key_of : ChildKey → Key ℕ
+key_of Star = star
+key_of (Literal h) = lit h
 
 -- node i has the hash h
 abbrev pub hash_is : List ℕ → ℕ → ℕ → Bool

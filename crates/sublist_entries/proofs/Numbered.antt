@@ -4,23 +4,19 @@
 --   put_entries     an entry put among the numbers is put among the entries
 --   numbers_mean    insert_numbers on the numbers is insert_into on the entries that they hold
 use mathlib.Core.Path.{◌≡◌, refl, sym, ◌∙◌, ap}
-use mathlib.Core.Bool.{Bool, true, false, not}
+use mathlib.Core.Bool.{Bool, true, false}
 use mathlib.Core.List.{List, [], ◌∷◌}
-use Prim.Native.Nat.{ℕ, zero, suc, ◌+◌, ◌*◌, ◌/◌, ◌<◌, ◌≤◌}
+use Prim.Native.Nat.{ℕ, zero, suc, ◌*◌, ◌/◌}
 use native.Mathlib.Omega.{arith}
-use lib.Dec.{T, leb}
+use lib.Dec.{leb}
 use lib.ListN.{length, set}
-use lib.Seq.{sets, set_out, length-sets, lt-length-set}
-use borrow.Author.Tests.{leb-true, le-leb}
+use lib.Seq.{sets, set_out}
+use borrow.Author.Tests.{leb-true}
 use Rattle.subject_rules.specs.Choice.{pick}
 use Rattle.subject_rules.specs.Answers.{Answer, answer}
 use Rattle.sublist_tree.specs.Lists.{put}
 use Rattle.sublist_entries.specs.declared.Entry.{Entry}
 use Rattle.sublist_entries.specs.declared.ListState.{ListState}
-use Rattle.sublist_entries.specs.declared.Placing.{Placing}
-use Rattle.sublist_entries.specs.Answers.{inserted}
-use Rattle.sublist_entries.specs.Placing.{Decides}
-use Rattle.sublist_entries.proofs.Deciding.{written, unwritten}
 use Rattle.sublist_entries.specs.Inserting.{insert_says, appended, after_answer, InsertOutcome, insert_by, insert_into}
 use Rattle.sublist_entries.specs.Numbers.{entry_numbers, numbers_of, entries_in, put_entry, insert_numbers}
 
@@ -59,52 +55,7 @@ module _ (e : Entry) where
       go true q = sym (set_out (entries_in ws) i e (rw (in_length ws) (leb-true (length ws / entry_numbers) i q)))
       go false q = entry-written i ws
 
--- where there is no place for it
-pub put-nowhere : (ws : List ℕ) (i : ℕ) (e : Entry) → length ws / entry_numbers ≤ i → ws ≡ put_entry ws i e
-unfolding put_entry
-put-nowhere ws i e h = rw (le-leb (length ws / entry_numbers) i h)
-
--- where there is
-pub put-inside : (ws : List ℕ) (i : ℕ) (e : Entry) → entry_numbers * i + entry_numbers ≤ length ws → put_entry ws i e ≡ sets ws (entry_numbers * i) (numbers_of e)
-unfolding put_entry
-put-inside ws i e h = go (leb (length ws / entry_numbers) i) refl
-  where
-    go : (b : Bool) → leb (length ws / entry_numbers) i ≡ b → pick b ws (sets ws (entry_numbers * i) (numbers_of e)) ≡ sets ws (entry_numbers * i) (numbers_of e)
-    go true q = absurd (omega (arith, leb-true (length ws / entry_numbers) i q, h))
-    go false q = refl
-
--- the stores of the code, one behind the other
-pub second_fits : (l : List ℕ) (j u : ℕ) → j + 3 ≤ length l → j + 1 < length (set l j u)
-second_fits l j u h = lt-length-set l j u (omega (arith, h))
-
-pub third-fits : (l : List ℕ) (j u v : ℕ) → j + 3 ≤ length l → j + 2 < length (set (set l j u) (j + 1) v)
-third-fits l j u v h = lt-length-set (set l j u) (j + 1) v (lt-length-set l j u (omega (arith, h)))
-
-pub put_three : (ws : List ℕ) (i : ℕ) (e : Entry) → entry_numbers * i + entry_numbers ≤ length ws
-    → set (set (set ws (3 * i) e.start) (3 * i + 1) e.length) (3 * i + 2) e.target ≡ put_entry ws i e
-put_three ws i e h =
-    let one : 3 * i + 1 ≡ suc (3 * i) = omega arith in
-    let two : 3 * i + 2 ≡ suc (suc (3 * i)) = omega arith in
-    rw (one, two, put-inside ws i e h)
-
-pub put-length : (ws : List ℕ) (i : ℕ) (e : Entry) → length (put_entry ws i e) ≡ length ws
-unfolding put_entry
-put-length ws i e = go (leb (length ws / entry_numbers) i)
-  where
-    go : (b : Bool) → length (pick b ws (sets ws (entry_numbers * i) (numbers_of e))) ≡ length ws
-    go true = refl
-    go false = length-sets ws (entry_numbers * i) (numbers_of e)
-
 -- ---- an insert on the numbers
-
-module _ (list : ListState) (ws s t : List ℕ) (target : ℕ) (p : Placing) (s' : List ℕ) (d : Decides list s t target (insert_says list (length ws / entry_numbers) (length s) t) p s') where
-  pub numbers_written : T p.taken → (ws' : List ℕ) → ws' ≡ put_entry ws p.at p.entry → inserted p.answer ws' s' ≡ insert_numbers list ws s t target
-  unfolding insert_numbers
-  numbers_written h ws' e = rw e (written list (length ws / entry_numbers) s t target (put_entry ws) ws p s' d h)
-
-  pub numbers_unwritten : T (not p.taken) → inserted p.answer ws s' ≡ insert_numbers list ws s t target
-  unfolding insert_numbers
-  numbers_unwritten h = unwritten list (length ws / entry_numbers) s t target (put_entry ws) ws p s' d h
 
 through : {A B : Type 0} (f : A → B) (a : Answer) (new old : A) → f (after_answer a new old) ≡ after_answer a (f new) (f old)
 through f (answer zero values) new old = refl

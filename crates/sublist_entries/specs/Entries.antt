@@ -1,5 +1,5 @@
 -- Entries: a pattern's place in the text store, and a target.
-use Rattle.std.specs.Prelude.{ℕ, ◌%◌, ◌^◌, List, map, take, drop}
+use Rattle.std.specs.Prelude.{ℕ, ◌%◌, ◌^◌, List, map, take, drop, get_or}
 use Rattle.subject_rules.specs.Fnv.{fnv}
 use Rattle.sublist_tree.specs.Tree.{Line}
 use Rattle.sublist_tree.specs.Table.{TableEntry, root_of}
@@ -24,6 +24,14 @@ word32 n = n % 2 ^ 32
 
 abbrev pub target_word : Entry → ℕ
 target_word e = word32 e.target
+
+-- an entry with its target as a word
+abbrev pub with_word : Entry → Entry
+with_word e = record { start = e.start; length = e.length; target = target_word e }
+
+-- the entry at a place; past the last a record of zeros
+abbrev pub entry_at : List Entry → ℕ → Entry
+entry_at es i = get_or es i (record { start = 0; length = 0; target = 0 })
 
 -- the table's entries: with their texts as read
 abbrev pub read_from : List ℕ → List Entry → List TableEntry

@@ -9,5 +9,3 @@ pub mod Answers
 pub mod Numbers
 -- inserts one after another, and what is asked of them
 pub mod Inserts
--- Only private contracts cite this one.
-pub mod Placing

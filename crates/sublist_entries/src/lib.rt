@@ -3,20 +3,23 @@
 // An entry is a record, or three plain numbers: start, length, target.
 #![tactic(auto)]
 
-ghost use Rattle.std.specs.Prelude.{◌≡◌, ◌-◌, ◌≤◌, length};
+ghost use Rattle.std.specs.Prelude.{◌≡◌, ◌<◌, List, ℕ, length, set};
 ghost use Rattle.sublist_tree.specs.Lists.{put};
-ghost use Rattle.sublist_entries.specs.Inserting.{insert_says, insert_into};
-ghost use Rattle.sublist_entries.specs.Answers.{inserted};
-ghost use Rattle.sublist_entries.specs.Numbers.{put_entry, insert_numbers};
-ghost use Rattle.sublist_entries.specs.Placing.{turned_down, refused_as, room_says, Decides};
+ghost use Rattle.sublist_entries.specs.Entries.{entry_at, with_word};
+ghost use Rattle.sublist_entries.specs.Inserting.{insert_says, appended, after_answer, insert_by, insert_into};
+ghost use Rattle.sublist_entries.specs.Answers.{insert_answer, inserted};
+ghost use Rattle.sublist_entries.specs.Numbers.{entries_in, put_entry, insert_numbers};
 
-use subject::{Parsed, SubjectError};
+use subject::SubjectError;
 
 // The most entries that a list may have.
 pub const MAX_ENTRIES: usize = 2048;
 
 // The plain numbers that an entry takes.
 pub const ENTRY_NUMBERS: usize = 3;
+
+// How many values a target has: it is a word of 32 bits.
+const TARGETS: usize = 4294967296;
 
 // A pattern's place in the text store, and its target.
 #[derive(Clone, Copy)]
@@ -33,133 +36,96 @@ pub struct ListState {
     pub used: usize,
 }
 
-// An insert gives the list's new state, or a refusal.
+// Why an insert is refused: 01's numbers 1 to 9, 10 and 11, in order.
 #[derive(Clone, Copy)]
-pub enum Inserted {
-    Done(ListState),
+pub enum InsertError {
     Invalid(SubjectError),
     EntriesFull,
     TextFull,
 }
 
-// What an insert decides: whether an entry is written, where, which one, and the answer.
-#[derive(Clone, Copy)]
-struct Placing {
-    taken: bool,
-    at: usize,
-    entry: Entry,
-    answer: Inserted,
-}
+impl From<SubjectError> for InsertError {
+    ghost use Rattle.std.specs.Prelude.{◌≡◌};
+    ghost use Rattle.sublist_entries.specs.declared.InsertError.TheVariants.{Invalid};
 
-// What is left of so many bytes: nothing if those in use exceed them.
-fn bytes_left(bytes: usize, used: usize) -> usize
-    ensures { result ≡ bytes - used }
-{
-    if used < bytes { bytes - used } else { 0 }
-}
+    ghost from_gives = { λ e r. r ≡ Invalid e };
 
-// A text is copied to its place in the store.
-fn paste(store: &mut [u8], at: usize, text: &[u8])
-    requires { length text.now ≤ length store.old - at }
-    ensures { store.new ≡ put store.old at text.now }
-{
-    let mut i = 0;
-    while i < text.len() {
-        store[at + i] = text[i];
-        i += 1;
+    fn from(e: SubjectError) -> InsertError {
+        InsertError::Invalid(e)
     }
 }
 
-// A refusal: no entry is written.
-fn turn_down(answer: Inserted) -> Placing
-    ensures { result ≡ turned_down answer }
-{
-    Placing {
-        taken: false,
-        at: 0,
-        entry: Entry {
-            start: 0,
-            length: 0,
-            target: 0,
-        },
-        answer,
+// What a lent list of entries is made of: records, or plain numbers, three an entry.
+pub trait EntryForm: Copy {
+    ghost use Rattle.sublist_entries.specs.declared.Entry.{Entry};
+
+    // the entries that a list holds
+    ghost entries: { List Self → List Entry };
+
+    // the list with an entry put at a place
+    ghost with_entry: { List Self → ℕ → Entry → List Self };
+
+    // How many entries a list holds.
+    fn count(list: &[Self]) -> usize
+        ensures { result ≡ length (entries list.now) };
+
+    // The entry at a place, its target as a word.
+    fn entry(list: &[Self], i: usize) -> Entry
+        requires { i < length (entries list.now) }
+        ensures { with_word result ≡ with_word (entry_at (entries list.now) i) };
+
+    // An entry is put at a place.
+    fn put(list: &mut [Self], i: usize, e: Entry)
+        requires { i < length (entries list.old) }
+        ensures { list.new ≡ with_entry list.old i e };
+}
+
+impl EntryForm for Entry {
+    ghost entries = { λ es. es };
+
+    ghost with_entry = { set };
+
+    fn count(list: &[Entry]) -> usize {
+        list.len()
+    }
+
+    fn entry(list: &[Entry], i: usize) -> Entry {
+        list[i]
+    }
+
+    fn put(list: &mut [Entry], i: usize, e: Entry) {
+        list[i] = e;
     }
 }
 
-// The refusal of a pattern.
-fn refused(pattern: Parsed) -> Inserted
-    ensures { result ≡ refused_as pattern }
-{
-    match pattern {
-        Parsed::Accepted(_) => Inserted::EntriesFull,
-        Parsed::Refused(e) => Inserted::Invalid(e),
-    }
-}
+impl EntryForm for usize {
+    ghost entries = { entries_in };
 
-// Rules 10 and 11 for an accepted pattern; its text goes into the store.
-fn place_text(list: ListState, places: usize, store: &mut [u8], text: &[u8], target: u32) -> Placing
-    ensures { Decides list store.old text.now target
-        (room_says list places (length store.old) (length text.now))
-        result store.new }
-{
-    if MAX_ENTRIES <= list.entries {
-        return turn_down(Inserted::EntriesFull);
-    }
-    if places <= list.entries {
-        return turn_down(Inserted::EntriesFull);
-    }
-    if bytes_left(store.len(), list.used) < text.len() {
-        return turn_down(Inserted::TextFull);
-    }
-    paste(store, list.used, text);
-    Placing {
-        taken: true,
-        at: list.entries,
-        entry: Entry {
-            start: list.used,
-            length: text.len(),
-            target,
-        },
-        answer: Inserted::Done(ListState {
-            entries: list.entries + 1,
-            used: list.used + text.len(),
-        }),
-    }
-}
+    ghost with_entry = { put_entry };
 
-// Rules 1 to 9, then 10 and 11.
-fn place(list: ListState, places: usize, store: &mut [u8], pattern: &[u8], target: u32) -> Placing
-    ensures { Decides list store.old pattern.now target
-        (insert_says list places (length store.old) pattern.now)
-        result store.new }
-{
-    let p = subject::parse(pattern);
-    let Parsed::Accepted(_) = p else {
-        return turn_down(refused(p));
-    };
-    place_text(list, places, store, pattern, target)
-}
-
-// A pattern's text is appended to the store, and its entry to the list. A refusal changes neither.
-pub fn insert(
-    list: ListState,
-    entries: &mut [Entry],
-    store: &mut [u8],
-    pattern: &[u8],
-    target: u32,
-) -> Inserted
-    ensures { inserted result entries.new store.new
-        ≡ insert_into list entries.old store.old pattern.now target }
-{
-    let p = place(list, entries.len(), store, pattern, target);
-    if p.taken {
-        entries[p.at] = p.entry;
+    #[tactic(auto, using(crate::proofs::Numbered::in_length))]
+    fn count(list: &[usize]) -> usize {
+        list.len() / ENTRY_NUMBERS
     }
-    p.answer
+
+    #[tactic(auto, using(crate::proofs::Numbered::in_length))]
+    fn entry(list: &[usize], i: usize) -> Entry {
+        let at = ENTRY_NUMBERS * i;
+        Entry {
+            start: list[at],
+            length: list[at + 1],
+            target: (list[at + 2] % TARGETS) as u32,
+        }
+    }
+
+    fn put(list: &mut [usize], i: usize, e: Entry) {
+        put_entry(list, i, e);
+    }
 }
 
 // An entry's numbers are put where those of entry i belong: start, length, target.
 // Where the words have no such place, nothing is.
+#[tactic(auto, unfolding(crate::specs::Numbers::put_entry))]
 pub fn put_entry(words: &mut [usize], i: usize, e: Entry)
     ensures { words.new ≡ put_entry words.old i e }
 {
@@ -172,23 +138,81 @@ pub fn put_entry(words: &mut [usize], i: usize, e: Entry)
     words[at + 2] = e.target as usize;
 }
 
+// Rules 1 to 9, then 10 and 11, for a list of so many places; an accepted pattern's text goes into the store.
+fn place_text(
+    list: ListState,
+    places: usize,
+    store: &mut [u8],
+    pattern: &[u8],
+) -> Result<ListState, InsertError>
+    ensures says { insert_answer result ≡ insert_says list places (length store.old) pattern.now }
+    ensures stored { store.new
+        ≡ after_answer (insert_answer result) (put store.old list.used pattern.now) store.old }
+{
+    subject::parse(pattern)?;
+    if places.min(MAX_ENTRIES) <= list.entries {
+        return Err(InsertError::EntriesFull);
+    }
+    if store.len().saturating_sub(list.used) < pattern.len() {
+        return Err(InsertError::TextFull);
+    }
+    let used = list.used + pattern.len();
+    store[list.used..used].copy_from_slice(pattern);
+    Ok(ListState {
+        entries: list.entries + 1,
+        used,
+    })
+}
+
+// A pattern's text is appended to the store, and its entry to a list of either form. A refusal changes neither.
+fn insert_entry<F: EntryForm>(
+    list: ListState,
+    entries: &mut [F],
+    store: &mut [u8],
+    pattern: &[u8],
+    target: u32,
+) -> Result<ListState, InsertError>
+    ensures { inserted result entries.new store.new
+        ≡ insert_by (insert_says list (length (F.entries entries.old)) (length store.old) pattern.now)
+        (F.with_entry entries.old list.entries (appended list pattern.now target)) entries.old
+        (put store.old list.used pattern.now) store.old }
+{
+    let after = place_text(list, F::count(entries), store, pattern)?;
+    let entry = Entry {
+        start: list.used,
+        length: pattern.len(),
+        target,
+    };
+    F::put(entries, list.entries, entry);
+    Ok(after)
+}
+
+// A pattern's text is appended to the store, and its entry to the list. A refusal changes neither.
+#[tactic(auto, unfolding(crate::specs::Inserting::insert_into))]
+pub fn insert(
+    list: ListState,
+    entries: &mut [Entry],
+    store: &mut [u8],
+    pattern: &[u8],
+    target: u32,
+) -> Result<ListState, InsertError>
+    ensures { inserted result entries.new store.new
+        ≡ insert_into list entries.old store.old pattern.now target }
+{
+    insert_entry(list, entries, store, pattern, target)
+}
+
 // The same as `insert`, on a list lent as plain numbers.
+#[tactic(auto, using(crate::proofs::Numbered::in_length), unfolding(crate::specs::Numbers::insert_numbers))]
 pub fn insert_numbers(
     list: ListState,
     words: &mut [usize],
     store: &mut [u8],
     pattern: &[u8],
     target: u32,
-) -> Inserted
+) -> Result<ListState, InsertError>
     ensures { inserted result words.new store.new
         ≡ insert_numbers list words.old store.old pattern.now target }
 {
-    let p = place(list, words.len() / ENTRY_NUMBERS, store, pattern, target);
-    if p.taken {
-        let at = p.at;
-        let entry = p.entry;
-        put_entry(words, at, entry);
-        return p.answer;
-    }
-    p.answer
+    insert_entry(list, words, store, pattern, target)
 }

@@ -32,7 +32,7 @@ use Rattle.sublist_entries.specs.Entries.{text_of, target_word, read_from, lines
 use Rattle.sublist_rules.specs.Building.{bad_entries, needed, worst_of, over_limit, build_says}
 use Rattle.sublist_rules.specs.Passes.{End, growth, stopped, lines_in, settled, filling, last_passes}
 use Rattle.sublist_rules.specs.Leaving.{finished, started, build_leaves, build_into}
-use Rattle.sublist_rules.specs.Core.{root_worst, targets_of, all_in, answer_by, left_by, if_bad, built_by, leaves_by, core_into}
+use Rattle.sublist_rules.specs.Core.{root_worst, all_in, answer_by, left_by, if_refused, built_by, leaves_by, core_into}
 use Rattle.sublist_rules.proofs.AcceptedEntries.{Sound, sound-entries}
 use Rattle.sublist_rules.proofs.Entering.{to_end, Entered, AllIn, Outcome, enters}
 use Rattle.sublist_rules.proofs.Standing.{target_end, all_targets, entered_root, worst-found}
@@ -153,53 +153,53 @@ module _ (es : List Entry) (store : List ℕ) (few : length es ≤ 2048) (sound 
           go' (inr w) = (w.1.0, w.1.1)
 
   -- the answer
-  says-sound : (a : List ℕ) (places generation : ℕ) → answer_by (length es) (needed store es) places generation (all_in es store a)
+  says-sound : (a : List ℕ) (places generation : ℕ) → answer_by es (needed store es) places generation (all_in es store a)
       ≡ pick (ltb (length a / 16) (needed store es)) (answer 14 (needed store es ∷ []))
       (pick (ltb places (length es)) (answer 15 [])
       (pick (over_limit (worst_of store es)) (answer 16 (worst_of store es ∷ 1024 ∷ []))
       (answer 0 (needed store es ∷ worst_of store es ∷ generation ∷ []))))
   says-sound a places generation = go (ltb (length a / 16) (needed store es)) refl
     where
-      go : (c : Bool) → ltb (length a / 16) (needed store es) ≡ c → answer_by (length es) (needed store es) places generation (all_in es store a)
+      go : (c : Bool) → ltb (length a / 16) (needed store es) ≡ c → answer_by es (needed store es) places generation (all_in es store a)
           ≡ pick c (answer 14 (needed store es ∷ []))
           (pick (ltb places (length es)) (answer 15 [])
           (pick (over_limit (worst_of store es)) (answer 16 (worst_of store es ∷ 1024 ∷ []))
           (answer 0 (needed store es ∷ worst_of store es ∷ generation ∷ []))))
-      go true e = ap (answer_by (length es) (needed store es) places generation) (no_room a (ltb-true (length a / 16) (needed store es) e)).1
+      go true e = ap (answer_by es (needed store es) places generation) (no_room a (ltb-true (length a / 16) (needed store es) e)).1
       go false e =
           let room = ltb-false (length a / 16) (needed store es) e in
-          ap (answer_by (length es) (needed store es) places generation) (all_in_lem a room)
+          ap (answer_by es (needed store es) places generation) (all_in_lem a room)
           ∙ (λ i. pick (ltb places (length es)) (answer 15 [])
           (pick (over_limit (root-worst a room i)) (answer 16 (root-worst a room i ∷ 1024 ∷ []))
           (answer 0 (needs i ∷ root-worst a room i ∷ generation ∷ []))))
 
   -- what is left
-  leaves_sound : (a ts : List ℕ) → left_by (length es) (targets_of es) ts (all_in es store a)
+  leaves_sound : (a ts : List ℕ) → left_by es ts (all_in es store a)
       ≡ pick (ltb (length a) 16) (filling a ts) (finished es store ts (lines_in (growth 1 (planted a) []) ls))
   unfolding built ends_of
   leaves_sound a ts = go (ltb (length a) 16) refl
     where
-      go : (c : Bool) → ltb (length a) 16 ≡ c → left_by (length es) (targets_of es) ts (pick c (stopped a) (lines_in (growth 1 (planted a) []) ls))
+      go : (c : Bool) → ltb (length a) 16 ≡ c → left_by es ts (pick c (stopped a) (lines_in (growth 1 (planted a) []) ls))
           ≡ pick c (filling a ts) (finished es store ts (lines_in (growth 1 (planted a) []) ls))
       go true e = refl
       go false e = go' (first_pass a (ltb-false (length a) 16 e))
         where
           go' : Outcome (planted a) root [] ls (lines_in (growth 1 (planted a) []) ls)
-              → left_by (length es) (targets_of es) ts (lines_in (growth 1 (planted a) []) ls) ≡ finished es store ts (lines_in (growth 1 (planted a) []) ls)
+              → left_by es ts (lines_in (growth 1 (planted a) []) ls) ≡ finished es store ts (lines_in (growth 1 (planted a) []) ls)
           go' (inl w) =
               let m = w.1 in
-              ap (left_by (length es) (targets_of es) ts) m.1
+              ap (left_by es ts) m.1
               ∙ ap (λ v. pick (ltb (length ts) (length es)) (filling m.0 ts) (pick (over_limit v) (filling (settled m.0 (size T - 1)) ts) (last_passes (size T) m.0 ts E (map target_word es)))) (second_pass m.0 m.2)
               ∙ sym (ap (finished es store ts) m.1)
-          go' (inr w) = ap (left_by (length es) (targets_of es) ts) w.1.1 ∙ sym (ap (finished es store ts) w.1.1)
+          go' (inr w) = ap (left_by es ts) w.1.1 ∙ sym (ap (finished es store ts) w.1.1)
 
 -- the core's answer is what build says
-pub core_says : (es : List Entry) (store a : List ℕ) (places generation : ℕ) → built_by (length es) es store a places generation ≡ build_says es store (length a / 16) places generation
+pub core_says : (es : List Entry) (store a : List ℕ) (places generation : ℕ) → built_by es store a places generation ≡ build_says es store (length a / 16) places generation
 unfolding built_by build_says
 core_says es store a places generation = go (ltb 2048 (length es)) refl (bad_entries store 0 es) refl
   where
     go : (b : Bool) → ltb 2048 (length es) ≡ b → (o : Option Answer) → bad_entries store 0 es ≡ o
-        → pick b (answer 10 []) (unless o (answer_by (length es) (needed store es) places generation (all_in es store a)))
+        → unless (pick b (some (answer 10 [])) o) (answer_by es (needed store es) places generation (all_in es store a))
         ≡ pick b (answer 10 []) (unless o
         (pick (ltb (length a / 16) (needed store es)) (answer 14 (needed store es ∷ []))
         (pick (ltb places (length es)) (answer 15 [])
@@ -210,17 +210,17 @@ core_says es store a places generation = go (ltb 2048 (length es)) refl (bad_ent
     go false e none q = says-sound es store (ltb-false 2048 (length es) e) q a places generation
 
 -- and what it leaves is what build leaves
-pub core_leaves : (es : List Entry) (store a ts : List ℕ) → leaves_by (length es) es store a ts ≡ build_leaves es store a ts
+pub core_leaves : (es : List Entry) (store a ts : List ℕ) → leaves_by es store a ts ≡ build_leaves es store a ts
 unfolding leaves_by build_leaves
 core_leaves es store a ts = go (ltb 2048 (length es)) refl (bad_entries store 0 es) refl
   where
     go : (b : Bool) → ltb 2048 (length es) ≡ b → (o : Option Answer) → bad_entries store 0 es ≡ o
-        → pick b (filling a ts) (if_bad o (filling a ts) (left_by (length es) (targets_of es) ts (all_in es store a))) ≡ pick b (filling a ts) (started es store a ts o)
+        → if_refused (pick b (some (answer 10 [])) o) (filling a ts) (left_by es ts (all_in es store a)) ≡ pick b (filling a ts) (started es store a ts o)
     go true e o q = refl
     go false e (some r) q = refl
     go false e none q = leaves_sound es store (ltb-false 2048 (length es) e) q a ts
 
 -- both
-pub core_builds : (es : List Entry) (store a ts : List ℕ) (generation : ℕ) → core_into (length es) es store a ts generation ≡ build_into es store a ts generation
+pub core_builds : (es : List Entry) (store a ts : List ℕ) (generation : ℕ) → core_into es store a ts generation ≡ build_into es store a ts generation
 unfolding build_into
 core_builds es store a ts generation i = record { says = core_says es store a (length ts) generation i; areas = core_leaves es store a ts i }

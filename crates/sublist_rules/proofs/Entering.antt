@@ -6,6 +6,7 @@ use mathlib.Core.Path.{◌≡◌, refl, sym, ap, ◌∙◌, subst}
 use mathlib.Core.Bool.{Bool, true, false}
 use mathlib.Core.Logic.{◌⊎◌, inl, inr}
 use mathlib.Core.List.{List, [], ◌∷◌, ◌++◌, map, append_assoc}
+use Rattle.std.proofs.Common.{Result, Err, append-nil}
 use lib.Dec.{eqb}
 use lib.ListN.{length, get_or, length-append}
 use lib.Seq.{get_or-set_other}
@@ -18,9 +19,10 @@ use Rattle.sublist_trie.proofs.Ends.{LineEnd, line_end, ends_from}
 use Rattle.sublist_trie.proofs.Runs.{size_pos}
 use Rattle.sublist_trie.proofs.Growth.{run_ins}
 use Rattle.sublist_area_rules.specs.declared.Placed.{Placed}
-use Rattle.sublist_area_rules.specs.declared.Placed.TheVariants.{At, Full}
+use Rattle.sublist_area_rules.specs.declared.PlaceError.{PlaceError}
+use Rattle.sublist_area_rules.specs.declared.PlaceError.TheVariants.{Full}
 use Rattle.sublist_area_rules.specs.Words.{word}
-use Rattle.sublist_area_rules.specs.Growing.{grown}
+use Rattle.sublist_area_rules.specs.Growing.{placed_at, grown}
 use Rattle.sublist_area_rules.proofs.Grown.{LeftWord, Fits}
 use Rattle.sublist_area_rules.proofs.Hashes.{Rep, Grew, RunEnds, rep_store, grown_all, ins_more}
 use Rattle.sublist_rules.specs.Passes.{End, end, Growth, growth, stopped, start_word, count_word, counted, joined, line_in, lines_in}
@@ -28,10 +30,6 @@ use Rattle.sublist_rules.proofs.Filling.{node_of, end_is_lem, hit, count_ends, e
 
 abbrev pub to_end : LineEnd → End
 to_end (line_end j tail target) = end j tail
-
-append_nil : {A : Type 0} (xs : List A) → xs ++ [] ≡ xs
-append_nil [] = refl
-append_nil (x ∷ xs) = ap (λ l. x ∷ l) (append_nil xs)
 
 count_more : (i : ℕ) (b : Bool) (es : List End) (e : End) → count_ends i b (es ++ (e ∷ [])) ≡ count_ends i b es + hit e i b
 count_more i b [] e = omega arith
@@ -143,16 +141,16 @@ counted_behind a j true y l = get_or-set_other a (j * 16 + 7) y ((word a j 7 + 1
 counted_behind a j false y l = get_or-set_other a (j * 16 + 5) y ((word a j 5 + 1) % 4294967296) 0 (λ e. omega arith)
 
 -- one line, and then the others
-one_line : (n : ℕ) (a : List ℕ) (es : List End) (ks : List (Key ℕ)) (tail : Bool) (x : ℕ) (ls : List (Line ℕ)) (s : Placed × List ℕ)
-    → grown (At 0 n, a) ks ≡ s → lines_in (growth n a es) (line ks tail x ∷ ls) ≡ lines_in (joined s tail es) ls
+one_line : (n : ℕ) (a : List ℕ) (es : List End) (ks : List (Key ℕ)) (tail : Bool) (x : ℕ) (ls : List (Line ℕ)) (s : Result Placed PlaceError × List ℕ)
+    → grown (placed_at 0 n, a) ks ≡ s → lines_in (growth n a es) (line ks tail x ∷ ls) ≡ lines_in (joined s tail es) ls
 unfolding lines_in line_in
 one_line n a es ks tail x ls s e = ap (λ r. lines_in (joined r tail es) ls) e
 
-joined_at : (j n : ℕ) (a : List ℕ) (tail : Bool) (es : List End) → joined (At j n, a) tail es ≡ growth n (counted a j tail) (es ++ (end j tail ∷ []))
+joined_at : (j n : ℕ) (a : List ℕ) (tail : Bool) (es : List End) → joined (placed_at j n, a) tail es ≡ growth n (counted a j tail) (es ++ (end j tail ∷ []))
 unfolding joined
 joined_at j n a tail es = refl
 
-joined_full : (a : List ℕ) (tail : Bool) (es : List End) → joined (Full, a) tail es ≡ stopped a
+joined_full : (a : List ℕ) (tail : Bool) (es : List End) → joined (Err Full, a) tail es ≡ stopped a
 unfolding joined
 joined_full a tail es = refl
 
@@ -201,12 +199,12 @@ pub enters : (ls : List (Line ℕ)) (a : List ℕ) (t : Trie ℕ) (es : List End
     → Outcome a t es ls (lines_in (growth (size t) a es) ls)
 unfolding built_from lines_in ends_from
 enters [] a t es ok small few =
-    inl ((ok.rep.room, small), (a, ap (growth (size t) a) (sym (append_nil es)), subst (Entered a t) (sym (append_nil es)) ok, refl, (λ x l. refl)))
+    inl ((ok.rep.room, small), (a, ap (growth (size t) a) (sym (append-nil es)), subst (Entered a t) (sym (append-nil es)) ok, refl, (λ x l. refl)))
 enters (line ks tail x ∷ ls) a t es ok small few =
     go (grown_all ks a t 0 ok.rep (size_pos t) small)
     (λ b w l. enters ls (counted b (ins_t eqb t 0 ks).1 tail) (ins_t eqb t 0 ks).0 (es ++ (end (ins_t eqb t 0 ks).1 tail ∷ [])) w l (omega (arith, length-append es (end (ins_t eqb t 0 ks).1 tail ∷ []))))
   where
-    go : RunEnds a t (grown (At 0 (size t), a) ks) (ins_t eqb t 0 ks)
+    go : RunEnds a t (grown (placed_at 0 (size t), a) ks) (ins_t eqb t 0 ks)
         → ((b : List ℕ) → Entered (counted b (ins_t eqb t 0 ks).1 tail) (ins_t eqb t 0 ks).0 (es ++ (end (ins_t eqb t 0 ks).1 tail ∷ [])) → size (ins_t eqb t 0 ks).0 < 2 ^ 32
         → Outcome (counted b (ins_t eqb t 0 ks).1 tail) (ins_t eqb t 0 ks).0 (es ++ (end (ins_t eqb t 0 ks).1 tail ∷ [])) ls
         (lines_in (growth (size (ins_t eqb t 0 ks).0) (counted b (ins_t eqb t 0 ks).1 tail) (es ++ (end (ins_t eqb t 0 ks).1 tail ∷ []))) ls))
@@ -215,11 +213,11 @@ enters (line ks tail x ∷ ls) a t es ok small few =
         let m = w.1 in
         let end_in = (run_ins eqb eqb_sound eqb_whole t ks ok.rep.good).1 in
         let entered = entered_more a t es ok m.0 (ins_t eqb t 0 ks).0 m.2 (ins_t eqb t 0 ks).1 tail end_in (omega arith) in
-        subst (Outcome a t es (line ks tail x ∷ ls)) (sym (one_line (size t) a es ks tail x ls (At (ins_t eqb t 0 ks).1 (size (ins_t eqb t 0 ks).0), m.0) m.1 ∙ ap (λ g. lines_in g ls) (joined_at (ins_t eqb t 0 ks).1 (size (ins_t eqb t 0 ks).0) m.0 tail es)))
+        subst (Outcome a t es (line ks tail x ∷ ls)) (sym (one_line (size t) a es ks tail x ls (placed_at (ins_t eqb t 0 ks).1 (size (ins_t eqb t 0 ks).0), m.0) m.1 ∙ ap (λ g. lines_in g ls) (joined_at (ins_t eqb t 0 ks).1 (size (ins_t eqb t 0 ks).0) m.0 tail es)))
         (more_lines a t es ok ks tail x ls m.0 (ins_t eqb t 0 ks).1 (ins_t eqb t 0 ks).0 _ m.2 end_in refl (ih m.0 entered w.0.1))
     go (inr w) ih =
         let m = w.1 in
         inr (
           (λ f. w.0 (omega (arith, f.0, from_more ls (ins_t eqb t 0 ks).0), omega (arith, f.1, from_more ls (ins_t eqb t 0 ks).0))),
-          (m.0, one_line (size t) a es ks tail x ls (Full, m.0) m.1 ∙ ap (λ g. lines_in g ls) (joined_full m.0 tail es) ∙ stays m.0 ls, m.2),
+          (m.0, one_line (size t) a es ks tail x ls (Err Full, m.0) m.1 ∙ ap (λ g. lines_in g ls) (joined_full m.0 tail es) ∙ stays m.0 ls, m.2),
         )

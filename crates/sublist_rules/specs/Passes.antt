@@ -1,12 +1,13 @@
 -- What a build does to the words lent for nodes and targets, pass by pass.
 -- A line is the keys of a pattern, whether `>` follows, and its target.
-use Rattle.std.specs.Prelude.{ℕ, zero, suc, ◌+◌, ◌-◌, ◌*◌, ◌%◌, max, min, Bool, true, false, List, [], ◌∷◌, ◌++◌, ltb, eqb, set}
+use Rattle.std.specs.Prelude.{ℕ, zero, suc, ◌+◌, ◌-◌, ◌*◌, ◌%◌, max, min, Bool, true, false}
+use Rattle.std.specs.Prelude.{List, [], ◌∷◌, ◌++◌, ltb, eqb, set, Result, Ok, Err}
 use Rattle.subject_rules.specs.Choice.{pick}
 use Rattle.sublist_tree.specs.Tree.{Line, line}
 use Rattle.sublist_area_rules.specs.declared.Placed.{Placed}
-use Rattle.sublist_area_rules.specs.declared.Placed.TheVariants.{At, Full, Broken}
+use Rattle.sublist_area_rules.specs.declared.PlaceError.{PlaceError}
 use Rattle.sublist_area_rules.specs.Words.{word}
-use Rattle.sublist_area_rules.specs.Growing.{grown}
+use Rattle.sublist_area_rules.specs.Growing.{placed_at, grown}
 
 -- where a line ends: a node, and whether `>` follows
 pub data End : Type 0 where
@@ -30,14 +31,13 @@ start_word false = 4
 unfoldable pub counted : List ℕ → ℕ → Bool → List ℕ
 counted a j tail = set a (j * 16 + count_word tail) ((word a j (count_word tail) + 1) % 4294967296)
 
-unfoldable pub joined : Placed × List ℕ → Bool → List End → Growth
-joined (At j n, a) tail ends = growth n (counted a j tail) (ends ++ (end j tail ∷ []))
-joined (Full, a) tail ends = stopped a
-joined (Broken, a) tail ends = stopped a
+unfoldable pub joined : Result Placed PlaceError × List ℕ → Bool → List End → Growth
+joined (Ok p, a) tail ends = growth p.count (counted a p.node tail) (ends ++ (end p.node tail ∷ []))
+joined (Err e, a) tail ends = stopped a
 
 -- first pass: each line's run is put in, and its end counts it
 unfoldable pub line_in : Growth → Line ℕ → Growth
-line_in (growth n a ends) (line ks tail target) = joined (grown (At 0 n, a) ks) tail ends
+line_in (growth n a ends) (line ks tail target) = joined (grown (placed_at 0 n, a) ks) tail ends
 line_in (stopped a) l = stopped a
 
 unfoldable pub lines_in : Growth → List (Line ℕ) → Growth

@@ -1,19 +1,12 @@
 -- A table's words cut to its counts: lookups read nothing else, so the cut areas hold what the whole ones hold.
-use Rattle.std.proofs.Common.{◌≡◌, ℕ, zero, suc, ◌+◌, ◌*◌, ◌/◌, ◌%◌, ◌<◌, ◌≤◌, Bool, true, false, eqb, leb, List, [], ◌∷◌, length, get_or, take, refl, ap, ◌∙◌, arith, length-take-le, get_or-take, take-take, le-ltb, leb-false}
+use Rattle.std.proofs.Common.{◌≡◌, ℕ, zero, suc, ◌+◌, ◌*◌, ◌/◌, ◌%◌, ◌<◌, ◌≤◌, Bool, true, false, eqb, leb, List, length, get_or, take, refl, ap, ◌∙◌, arith, length-take-le, get_or-take, le-ltb, leb-false}
 use borrow.Author.Tests.{lt-leb}
 use Rattle.subject_rules.specs.Choice.{pick}
 use Rattle.sublist_tree.specs.Tree.{Key, star, lit, Line, ends, left_at}
 use Rattle.sublist_area_rules.specs.declared.Child.TheVariants.{Node, Missing, Damaged}
 use Rattle.sublist_area_rules.specs.Words.{Met, met, told, word, hash_is, by_hash, outside, seek, literal_child, star_child, child_of}
-use Rattle.sublist_walk_rules.specs.Walk.{part}
+use Rattle.sublist_walk_rules.proofs.Parts.{part-take}
 use Rattle.sublist_walk_rules.specs.Holds.{Says, Holds}
-
--- a part of a list's first m elements
-pub part-take : (m : ℕ) (xs : List ℕ) (from count : ℕ) → from + count ≤ m → part (take m xs) from count ≡ part xs from count
-part-take m xs zero count h = take-take count m xs (omega arith)
-part-take zero xs (suc from) count h = absurd (omega arith)
-part-take (suc m) [] (suc from) count h = refl
-part-take (suc m) (x ∷ xs) (suc from) count h = part-take m xs from count (omega arith)
 
 module _ (a : List ℕ) (n : ℕ) (fits : n * 16 ≤ length a) where
   pub word-part : (i f : ℕ) → i < n → f < 16 → word (take (n * 16) a) i f ≡ word a i f

@@ -1,8 +1,8 @@
 -- Laws of the walk over an area.
+pub mod Stores
 pub mod Pushes
 pub mod Levels
-pub mod Lending
+pub mod Cuts
 pub mod Visits
-pub mod Fronts
 pub mod Walks
 pub mod Writing

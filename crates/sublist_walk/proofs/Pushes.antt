@@ -1,48 +1,62 @@
--- What each way through `push_child` makes of `push`.
+-- What each way through `Frontier::push` makes of `push`.
 use Prim.Native.Nat.{ℕ, ◌+◌, ◌≤◌, ◌<◌}
 use native.Mathlib.Numerals.{add-one}
 use native.Mathlib.Omega.{arith}
-use mathlib.Core.Path.{◌≡◌, refl}
-use mathlib.Core.Bool.{true, false}
-use mathlib.Core.Logic.{⊎_elim}
+use mathlib.Core.Path.{◌≡◌, refl, sym, ◌∙◌}
+use mathlib.Core.Bool.{Bool, true, false, ◌||◌}
 use mathlib.Core.List.{List, [], ◌∷◌}
-use denote.Enum.Declared.{tag_of}
-use types.Run.{OneOf}
+use lib.Dec.{eqb}
 use lib.ListN.{length, take, set}
 use lib.Seq.{length-take-le, take-suc-set}
-use borrow.Author.Tests.{lt-ltb, le-ltb}
-use Rattle.sublist_area_rules.specs.contracts.Child.{the_type}
+use borrow.Author.Tests.{lt-ltb, le-ltb, eqb-true, eq-eqb}
+use Rattle.std.specs.List.{list_any}
+use Rattle.subject_rules.specs.Choice.{or}
 use Rattle.sublist_area_rules.specs.declared.Child.{Child}
 use Rattle.sublist_area_rules.specs.declared.Child.TheVariants.{Node, Missing, Damaged}
 use Rattle.sublist_walk_rules.specs.declared.Failure.TheVariants as failure
-use Rattle.sublist_walk.specs.declared.Front.{Front}
-use Rattle.sublist_walk_rules.specs.Walk.{among, level, push}
-use Rattle.sublist_walk.specs.Told.{missed, fronted, Within}
-use Rattle.sublist_walk.specs.declared.Front.TheVariants as front
+use Rattle.sublist_walk_rules.specs.Walk.{among, level, broken, push}
 
-module _ (l : List ℕ) (n : ℕ) (h : n ≤ length l) (c : Child) where
-  -- no node: by its tag it is one of the other two
-  pub push_none : OneOf (1 ∷ 2 ∷ []) (tag_of the_type c) → (r : Front) → r ≡ missed c n
-      → (fronted r l ≡ push (length l) (level (take n l) []) c) × Within r (length l)
-  unfolding fronted push
-  push_none t r e = rw e (go c t)
-    where
-      go : (x : Child) → OneOf (1 ∷ 2 ∷ []) (tag_of the_type x)
-          → (fronted (missed x n) l ≡ push (length l) (level (take n l) []) x) × Within (missed x n) (length l)
-      go (Node j) o = absurd (⊎_elim (λ e. omega arith) (λ e. omega arith) o)
-      go (Missing link) o = (refl, h)
-      go Damaged o = (refl, tt)
+eqb_either : (x y : ℕ) → eqb x y ≡ eqb y x
+eqb_either x y = go (eqb x y) (eqb y x) refl refl
+  where
+    go : (a b : Bool) → eqb x y ≡ a → eqb y x ≡ b → a ≡ b
+    go true true e f = refl
+    go false false e f = refl
+    go true false e f = sym (eq-eqb y x (sym (eqb-true x y e))) ∙ f
+    go false true e f = sym e ∙ eq-eqb x y (sym (eqb-true y x f))
 
-  module _ (j : ℕ) (e : c ≡ Node j) where
-    pub push_there : true ≡ among j (take n l) → fronted (front.Upto n) l ≡ push (length l) (level (take n l) []) c
-    unfolding fronted push
-    push_there a = rw (e, ← a)
+-- `contains`
+pub among_any : (j : ℕ) (l : List ℕ) → list_any (λ y. eqb y j) l ≡ among j l
+among_any j [] = refl
+among_any j (i ∷ l) = rw (eqb_either i j, among_any j l) (go (eqb j i))
+  where
+    go : (b : Bool) → (b || among j l) ≡ or b (among j l)
+    go true = refl
+    go false = refl
 
-    module _ (a : false ≡ among j (take n l)) where
-      pub push-new : n < length l → fronted (front.Upto (n + 1)) (set l n j) ≡ push (length l) (level (take n l) []) c
-      unfolding fronted push
-      push-new k = rw (e, ← a, length-take-le n l h, lt-ltb n (length l) k, add-one, take-suc-set l n j k)
+-- no node joins
+pub push-none : (k : ℕ) (l : List ℕ) (c : Child) (link : ℕ) → c ≡ Missing link → push k (level l []) c ≡ level l []
+unfolding push
+push-none k l c link e = rw e
 
-      pub push-wide : length l ≤ n → (x : List ℕ) → fronted (front.Failed failure.Wide) x ≡ push (length l) (level (take n l) []) c
-      unfolding fronted push
-      push-wide k x = rw (e, ← a, length-take-le n l h, le-ltb n (length l) k)
+pub push-damaged : (k : ℕ) (l : List ℕ) (c : Child) → c ≡ Damaged → push k (level l []) c ≡ broken failure.Damaged
+unfolding push
+push-damaged k l c e = rw e
+
+-- a node
+module _ (k : ℕ) (l : List ℕ) (c : Child) (j : ℕ) (e : c ≡ Node j) where
+  pub push-there : among j l ≡ true → push k (level l []) c ≡ level l []
+  unfolding push
+  push-there a = rw (e, a)
+
+  module _ (a : among j l ≡ false) where
+    pub push-wide : k ≤ length l → push k (level l []) c ≡ broken failure.Wide
+    unfolding push
+    push-wide h = rw (e, a, le-ltb (length l) k h)
+
+    -- the frontier's n nodes are the first of k that have room
+    pub push-new : (nodes : List ℕ) (n : ℕ) → take n nodes ≡ l → length nodes ≡ k → n < k → push k (level l []) c ≡ level (take (n + 1) (set nodes n j)) []
+    unfolding push
+    push-new nodes n f g h =
+        let m : length l ≡ n = rw f at (length-take-le n nodes (omega arith)) in
+        rw (e, a, lt-ltb (length l) k (omega arith), add-one, take-suc-set nodes n j (omega arith), f)

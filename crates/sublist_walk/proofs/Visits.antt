@@ -1,36 +1,31 @@
 -- What each way through `visit`, `visit_front` and `collect_exact` makes of a level: one node, then the frontier's nodes in turn.
-use Prim.Native.Nat.{ℕ, suc, ◌+◌, ◌≤◌, ◌<◌}
-use native.Mathlib.Numerals.{add-one}
-use native.Mathlib.Omega.{arith}
-use mathlib.Core.Path.{◌≡◌, refl, sym, ◌∙◌, ap}
-use mathlib.Core.Bool.{Bool, true, false}
-use mathlib.Core.List.{List, [], ◌∷◌, ◌++◌, append-nil, append_assoc}
-use lib.Dec.{leb, ltb}
-use lib.ListN.{length, get_or, take, drop, length-append}
-use lib.Seq.{length-take-le, take-suc, take-take, get_or-take, split_at}
+use Rattle.std.proofs.Common.{◌≡◌, ℕ, suc, ◌+◌, ◌-◌, ◌<◌, min, Bool, true, false, ltb, leb, List, [], ◌∷◌, ◌++◌, length, get_or, take, drop, refl, sym, ap, ◌∙◌, append_assoc, append-nil, add-one, arith, length-append}
+use lib.Seq.{take-suc, split_at}
+use borrow.Rule.Slice.PartMut.{put_mid}
 use Rattle.subject_rules.specs.Choice.{pick}
 use Rattle.sublist_area_rules.specs.declared.Child.{Child}
 use Rattle.sublist_area_rules.specs.declared.Child.TheVariants.{Node, Missing, Damaged}
-use Rattle.sublist_area_rules.specs.Words.{word}
+use Rattle.sublist_area_rules.specs.Words.{word, literal_child, star_child}
 use Rattle.sublist_walk_rules.specs.declared.Failure.{Failure}
 use Rattle.sublist_walk_rules.specs.declared.Failure.TheVariants as failure
 use Rattle.sublist_walk_rules.specs.Walk.{part, among, Level, level, broken, collect, push, pushes, children, visit, visits, exact}
 use Rattle.sublist_walk.specs.Told.{Added}
-use Rattle.subject_rules.proofs.Stores.{sets-append}
+use Rattle.sublist_walk.proofs.Stores.{behind_stored}
 
 -- nothing yet
-pub listed_none : (at : ℕ) (out : List ℕ) → Added (level [] []) [] at at 0 out out
-listed_none at out = record { list = []; is = refl; sized = omega arith; most = omega arith; stored = refl }
+pub listed_none : (out : List ℕ) → Added (level [] []) [] 0 0 out out
+listed_none out = record { list = []; is = refl; counts = refl; most = omega arith; stored = refl }
 
 -- two lists, read at i and at j nodes, the second written behind the first
-pub joined : (s s1 s2 : Level) (next next1 : List ℕ) (at size size1 i j : ℕ) (out now after : List ℕ) (w : Added s next at size i out now) (v : Added s1 next1 size size1 j now after)
-    → s2 ≡ level next1 (w.list ++ v.list) → Added s2 next1 at size1 (i + j) out after
-joined s s1 s2 next next1 at size size1 i j out now after w v e = record {
+joined : (s s1 s2 : Level) (next next1 : List ℕ) (count count1 i j r : ℕ) (out now after : List ℕ)
+    → r ≡ min (length now) count → (w : Added s next count i out now) (v : Added s1 next1 count1 j (take (length now - r) (drop r now)) after)
+    → s2 ≡ level next1 (w.list ++ v.list) → Added s2 next1 (count + count1) (i + j) out (put_mid r (length now - r) now after)
+joined s s1 s2 next next1 count count1 i j r out now after p w v e = record {
   list = w.list ++ v.list;
   is = e;
-  sized = rw (length-append w.list v.list) (let x = w.sized in let y = v.sized in omega arith);
+  counts = rw (length-append w.list v.list) (let x = w.counts in let y = v.counts in omega arith);
   most = let x = w.most in let y = v.most in omega arith;
-  stored = v.stored ∙ rw (w.sized, w.stored) (sym (sets-append out at w.list v.list));
+  stored = behind_stored out w.list v.list now after r (rw w.counts at p) w.stored v.stored;
 }
 
 -- a level whose list comes behind another
@@ -62,17 +57,17 @@ pushes_behind k l s (c ∷ cs) = ap (λ x. pushes k x cs) (push_behind k l s c) 
 
 -- what a node's words say does not hang on the level so far
 module _ (a : List ℕ) (m : ℕ) (ts : List ℕ) (f i : ℕ) where
-  outside_too : (next list : List ℕ) → collect a m ts f i (level [] []) ≡ broken failure.Damaged → collect a m ts f i (level next list) ≡ broken failure.Damaged
+  outside_too : (next list : List ℕ) (why : Failure) → collect a m ts f i (level [] []) ≡ broken why → collect a m ts f i (level next list) ≡ broken why
   unfolding collect
-  outside_too next list e = go (leb (word a i f + word a i (f + 1)) m) e
+  outside_too next list why e = go (leb (word a i f + word a i (f + 1)) m) e
     where
       new : List ℕ
       new = part ts (word a i f) (word a i (f + 1))
 
-      go : (t : Bool) → pick t (level [] ([] ++ new)) (broken failure.Damaged) ≡ broken failure.Damaged
-          → pick t (level next (list ++ new)) (broken failure.Damaged) ≡ broken failure.Damaged
+      go : (t : Bool) → pick t (level [] ([] ++ new)) (broken failure.Damaged) ≡ broken why
+          → pick t (level next (list ++ new)) (broken failure.Damaged) ≡ broken why
       go true w = let z : ◌≡◌ {A = ℕ} 0 1 = cc in absurd (omega arith)
-      go false w = refl
+      go false w = w
 
   collect-new : (next list new : List ℕ) → collect a m ts f i (level [] []) ≡ level [] new → collect a m ts f i (level next list) ≡ level next (list ++ new)
   unfolding collect
@@ -97,38 +92,40 @@ module _ (a : List ℕ) (m : ℕ) (ts : List ℕ) (f i : ℕ) where
       collect_behind next (l ++ list) ∙ behind_append l list (collect a m ts f i (level next [])) ∙ ap (behind l) (sym (collect_behind next list))
   collect_through l (broken why) = refl
 
--- a frontier's first i nodes, the next one, and those behind it
-nodes-split : (l : List ℕ) (i c : ℕ) → i < c → c ≤ length l → take c l ≡ take i l ++ get_or l i 0 ∷ drop (suc i) (take c l)
-nodes-split l i c q r = split_at (take c l) i 0 (rw (length-take-le c l r) q) ∙ rw (take-take i c l (omega arith), get_or-take c l i 0 q)
-
 module _ (k : ℕ) (a : List ℕ) (n m : ℕ) (ts : List ℕ) (h : ℕ) where
   -- one node, from a frontier with nothing listed: `joins` is what its children make of the frontier
   module _ (next : List ℕ) (i : ℕ) where
-    pub visit-outside : collect a m ts 6 i (level [] []) ≡ broken failure.Damaged → visit k a n m ts h (level next []) i ≡ broken failure.Damaged
+    pub visit-outside : (why : Failure) → collect a m ts 6 i (level [] []) ≡ broken why → visit k a n m ts h (level next []) i ≡ broken why
     unfolding visit push
-    visit-outside e = rw (outside_too a m ts 6 i next [] e)
+    visit-outside why e = rw (outside_too a m ts 6 i next [] why e)
 
-    module _ (joins : Level) (p : joins ≡ pushes k (level next []) (children a n h i)) (at size : ℕ) (out after : List ℕ)
-        (w : Added (collect a m ts 6 i (level [] [])) [] at size 1 out after) where
-      visit_behind : visit k a n m ts h (level next []) i ≡ behind w.list joins
+    -- the literal child and the `*` child, as lookups find them
+    module _ (first second : Child) (c1 : first ≡ literal_child a n i h) (c2 : second ≡ star_child a n i) (count : ℕ) (out after : List ℕ)
+        (w : Added (collect a m ts 6 i (level [] [])) [] count 1 out after) where
+      visit_behind : visit k a n m ts h (level next []) i ≡ behind w.list (push k (push k (level next []) first) second)
       unfolding visit behind
       visit_behind =
-          rw (collect-new a m ts 6 i next [] w.list w.is, p)
+          rw (collect-new a m ts 6 i next [] w.list w.is, c1, c2)
           (rw append-nil at (pushes_behind k w.list (level next []) (children a n h i)))
 
-      pub visit-failed : (why : Failure) → joins ≡ broken why → visit k a n m ts h (level next []) i ≡ broken why
-      unfolding behind
-      visit-failed why e = visit_behind ∙ rw e
+      pub visit_first : (why : Failure) → push k (level next []) first ≡ broken why → visit k a n m ts h (level next []) i ≡ broken why
+      unfolding behind push
+      visit_first why e = visit_behind ∙ rw e
 
-      pub visit_on : (next1 : List ℕ) → joins ≡ level next1 [] → Added (visit k a n m ts h (level next []) i) next1 at size 1 out after
-      unfolding behind
-      visit_on next1 e = record {
-        list = w.list;
-        is = visit_behind ∙ rw (e, append-nil);
-        sized = w.sized;
-        most = w.most;
-        stored = w.stored;
-      }
+      module _ (next1 : List ℕ) (e : push k (level next []) first ≡ level next1 []) where
+        pub visit_second : (why : Failure) → push k (level next1 []) second ≡ broken why → visit k a n m ts h (level next []) i ≡ broken why
+        unfolding behind
+        visit_second why f = visit_behind ∙ rw (e, f)
+
+        pub visit_on : (next2 : List ℕ) → push k (level next1 []) second ≡ level next2 [] → Added (visit k a n m ts h (level next []) i) next2 count 1 out after
+        unfolding behind
+        visit_on next2 f = record {
+          list = w.list;
+          is = visit_behind ∙ rw (e, f, append-nil);
+          counts = w.counts;
+          most = w.most;
+          stored = w.stored;
+        }
 
   -- one node, behind a list
   module _ (next list : List ℕ) (i : ℕ) where
@@ -173,35 +170,26 @@ module _ (k : ℕ) (a : List ℕ) (n m : ℕ) (ts : List ℕ) (h : ℕ) where
   visits-failed why (i ∷ is) = visits-failed why is
 
   -- the first i nodes of a frontier give a level; then the next one
-  module _ (l next : List ℕ) (at size i : ℕ) (out now : List ℕ)
-      (w : Added (visits k a n m ts h (level [] []) (take i l)) next at size i out now) where
-    visits-next : i < length l → visits k a n m ts h (level [] []) (take (i + 1) l) ≡ behind w.list (visit k a n m ts h (level next []) (get_or l i 0))
+  module _ (l next : List ℕ) (count i : ℕ) (out now : List ℕ) (w : Added (visits k a n m ts h (level [] []) (take i l)) next count i out now) (q : i < length l) where
+    visits-next : visits k a n m ts h (level [] []) (take (i + 1) l) ≡ behind w.list (visit k a n m ts h (level next []) (get_or l i 0))
     unfolding visits
-    visits-next q =
+    visits-next =
         rw (add-one i, take-suc l i 0 q, visits-append (level [] []) (take i l) (get_or l i 0 ∷ []), w.is) (visit_through next w.list (get_or l i 0))
 
-    -- limit, frontier and node as a call names them: k1, `front` and j; next2 is the frontier next1, as it is found afterwards
-    pub next_on : i < length l → (k1 : ℕ) → k1 ≡ k → (front : List ℕ) → front ≡ next → (j : ℕ) → j ≡ get_or l i 0 → (next1 next2 : List ℕ) → next1 ≡ next2 → (size1 : ℕ) (after : List ℕ)
-        → Added (visit k1 a n m ts h (level front []) j) next1 size size1 1 now after
-        → Added (visits k a n m ts h (level [] []) (take (i + 1) l)) next2 at size1 (i + 1) out after
+    pub next_on : (next1 : List ℕ) (count1 r : ℕ) (after : List ℕ) → r ≡ min (length now) count
+        → Added (visit k a n m ts h (level next []) (get_or l i 0)) next1 count1 1 (take (length now - r) (drop r now)) after
+        → Added (visits k a n m ts h (level [] []) (take (i + 1) l)) next1 (count + count1) (i + 1) out (put_mid r (length now - r) now after)
     unfolding behind
-    next_on q k1 g front f j e next1 next2 c size1 after u =
-        let v = (rw (g, f, e, c) at u) in
-        joined _ _ _ next next2 at size size1 i 1 out now after w v (visits-next q ∙ rw v.is)
+    next_on next1 count1 r after p v = joined _ _ _ next next1 count count1 i 1 r out now after p w v (visits-next ∙ rw v.is)
 
-    module _ (c : ℕ) (q : i < c) (r : c ≤ length l) where
-      visits-split : visits k a n m ts h (level [] []) (take c l) ≡ visits k a n m ts h (behind w.list (visit k a n m ts h (level next []) (get_or l i 0))) (drop (suc i) (take c l))
-      unfolding visits
-      visits-split =
-          ap (visits k a n m ts h (level [] [])) (nodes-split l i c q r)
-          ∙ visits-append (level [] []) (take i l) (get_or l i 0 ∷ drop (suc i) (take c l))
-          ∙ ap (λ s. visits k a n m ts h (visit k a n m ts h s (get_or l i 0)) (drop (suc i) (take c l))) w.is
-          ∙ ap (λ s. visits k a n m ts h s (drop (suc i) (take c l))) (visit_through next w.list (get_or l i 0))
-
-      pub next-failed : (k1 : ℕ) → k1 ≡ k → (front : List ℕ) → front ≡ next → (j : ℕ) → j ≡ get_or l i 0 → (why : Failure)
-          → visit k1 a n m ts h (level front []) j ≡ broken why → visits k a n m ts h (level [] []) (take c l) ≡ broken why
-      unfolding behind
-      next-failed k1 g front f j d why e = visits-split ∙ rw (rw (g, f, d) at e) (visits-failed why (drop (suc i) (take c l)))
+    pub next-failed : (why : Failure) → visit k a n m ts h (level next []) (get_or l i 0) ≡ broken why → visits k a n m ts h (level [] []) l ≡ broken why
+    unfolding visits behind
+    next-failed why e =
+        ap (visits k a n m ts h (level [] [])) (split_at l i 0 q)
+        ∙ visits-append (level [] []) (take i l) (get_or l i 0 ∷ drop (suc i) l)
+        ∙ ap (λ s. visits k a n m ts h (visit k a n m ts h s (get_or l i 0)) (drop (suc i) l)) w.is
+        ∙ ap (λ s. visits k a n m ts h s (drop (suc i) l)) (visit_through next w.list (get_or l i 0))
+        ∙ rw e (visits-failed why (drop (suc i) l))
 
 module _ (k : ℕ) (a : List ℕ) (n m : ℕ) (ts : List ℕ) where
   exact-append : (s : Level) (is js : List ℕ) → exact k a n m ts s (is ++ js) ≡ exact k a n m ts (exact k a n m ts s is) js
@@ -229,25 +217,25 @@ module _ (k : ℕ) (a : List ℕ) (n m : ℕ) (ts : List ℕ) where
     unfolding behind
     exact-listed new e = exact_with list is ∙ rw e
 
-    pub exact-failed : exact k a n m ts (level [] []) is ≡ broken failure.Damaged → exact k a n m ts (level [] list) is ≡ broken failure.Damaged
+    pub exact-failed : (why : Failure) → exact k a n m ts (level [] []) is ≡ broken why → exact k a n m ts (level [] list) is ≡ broken why
     unfolding behind
-    exact-failed e = exact_with list is ∙ rw e
+    exact-failed why e = exact_with list is ∙ rw e
 
   -- the exact targets of the first i nodes of a frontier; then of the next one
-  module _ (l : List ℕ) (at size i : ℕ) (out now : List ℕ) (w : Added (exact k a n m ts (level [] []) (take i l)) [] at size i out now) where
-    pub exact_on : i < length l → (size1 : ℕ) (after : List ℕ) → Added (collect a m ts 4 (get_or l i 0) (level [] [])) [] size size1 1 now after
-        → Added (exact k a n m ts (level [] []) (take (i + 1) l)) [] at size1 (i + 1) out after
+  module _ (l : List ℕ) (count i : ℕ) (out now : List ℕ) (w : Added (exact k a n m ts (level [] []) (take i l)) [] count i out now) (q : i < length l) where
+    pub exact_on : (count1 r : ℕ) (after : List ℕ) → r ≡ min (length now) count
+        → Added (collect a m ts 4 (get_or l i 0) (level [] [])) [] count1 1 (take (length now - r) (drop r now)) after
+        → Added (exact k a n m ts (level [] []) (take (i + 1) l)) [] (count + count1) (i + 1) out (put_mid r (length now - r) now after)
     unfolding exact
-    exact_on q size1 after v =
-        joined _ _ _ [] [] at size size1 i 1 out now after w v
+    exact_on count1 r after p v =
+        joined _ _ _ [] [] count count1 i 1 r out now after p w v
         (rw (add-one i, take-suc l i 0 q, exact-append (level [] []) (take i l) (get_or l i 0 ∷ []), w.is) (collect-new a m ts 4 (get_or l i 0) [] w.list v.list v.is))
 
-    pub exact-outside : (c : ℕ) → i < c → c ≤ length l → collect a m ts 4 (get_or l i 0) (level [] []) ≡ broken failure.Damaged
-        → exact k a n m ts (level [] []) (take c l) ≡ broken failure.Damaged
+    pub exact-outside : (why : Failure) → collect a m ts 4 (get_or l i 0) (level [] []) ≡ broken why → exact k a n m ts (level [] []) l ≡ broken why
     unfolding exact
-    exact-outside c q r e =
-        ap (exact k a n m ts (level [] [])) (nodes-split l i c q r)
-        ∙ exact-append (level [] []) (take i l) (get_or l i 0 ∷ drop (suc i) (take c l))
-        ∙ ap (λ s. exact k a n m ts (collect a m ts 4 (get_or l i 0) s) (drop (suc i) (take c l))) w.is
-        ∙ ap (λ s. exact k a n m ts s (drop (suc i) (take c l))) (outside_too a m ts 4 (get_or l i 0) [] w.list e)
-        ∙ exact-broken failure.Damaged (drop (suc i) (take c l))
+    exact-outside why e =
+        ap (exact k a n m ts (level [] [])) (split_at l i 0 q)
+        ∙ exact-append (level [] []) (take i l) (get_or l i 0 ∷ drop (suc i) l)
+        ∙ ap (λ s. exact k a n m ts (collect a m ts 4 (get_or l i 0) s) (drop (suc i) l)) w.is
+        ∙ ap (λ s. exact k a n m ts s (drop (suc i) l)) (outside_too a m ts 4 (get_or l i 0) [] w.list why e)
+        ∙ exact-broken why (drop (suc i) l)

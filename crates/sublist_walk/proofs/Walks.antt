@@ -1,60 +1,49 @@
 -- What each way through a turn of `walk`'s loop, and its end, make of a walk: w is what it ends with.
-use Prim.Native.Nat.{ℕ, ◌+◌, ◌-◌, ◌*◌, ◌≤◌, ◌<◌, max}
-use native.Mathlib.Omega.{arith}
-use mathlib.Core.Path.{◌≡◌, refl, sym, ◌∙◌}
-use mathlib.Core.List.{List, [], ◌∷◌, ◌++◌, map}
-use lib.ListN.{length, take, set, length-append}
-use lib.Seq.{take-suc-set, sets}
-use Rattle.subject_rules.specs.Text.{tokens}
-use Rattle.subject.specs.declared.Token.{Token}
-use Rattle.subject.specs.declared.Token.TheVariants.{Part, End}
+use Rattle.std.proofs.Common.{◌≡◌, ℕ, suc, ◌+◌, ◌-◌, ◌*◌, ◌≤◌, min, max, Bool, true, false, eqb, List, [], ◌∷◌, ◌++◌, map, length, take, drop, refl, sym, ap, ◌∙◌, arith, length-append}
+use lib.Seq.{sets}
+use Rattle.std.proofs.lemmas.List.{length-map}
+use borrow.Rule.Slice.PartMut.{put_mid}
+use Rattle.subject_rules.specs.Text.{cut_at, tokens}
 use Rattle.subject_rules.specs.Fnv.{fnv}
-use Rattle.subject.specs.Reading.{tokens_from, token_at}
-use Rattle.subject.proofs.Positions.{tokens-start, tokens-end}
-use Rattle.subject.proofs.Places.{part-found, end-found}
-use Rattle.sublist_walk_rules.specs.Walk.{part, level, broken, at, stuck, Walked, failed, visits, arrived, on_token, on_tokens, exact, listed, ended, walk_over}
+use Rattle.sublist_walk_rules.specs.Walk.{level, broken, at, stuck, Walked, failed, visits, arrived, on_token, on_tokens, exact, listed, ended, walk_over}
 use Rattle.sublist_walk_rules.specs.declared.Failure.{Failure}
-use Rattle.sublist_walk_rules.specs.declared.Failure.TheVariants as failure
-use Rattle.sublist_walk.specs.declared.Collected.{Collected}
-use Rattle.sublist_walk.specs.declared.Collected.TheVariants as collected
-use Rattle.sublist_walk.specs.declared.Walked as declared
-use Rattle.sublist_walk.specs.Told.{Added, Lists, Finds, Ends, finished}
-use Rattle.sublist_walk_rules.proofs.Parts.{sets_behind}
+use Rattle.sublist_walk.specs.Told.{Added, Finds}
+use Rattle.sublist_walk.proofs.Stores.{behind_stored}
 use Rattle.sublist_walk.proofs.Visits.{all_failed, all_on, exact-listed, exact-failed}
 use Rattle.sublist_walk_rules.proofs.Narrow.{exact-any}
 
--- a frontier, and the list and the peak so far: with the hashes left the walk ends with w. The place in the subject bounds the list's size: 2^42 for each token passed
-pub record Under (w : Walked) (k : ℕ) (a : List ℕ) (n m : ℕ) (ts front : List ℕ) (peak size place : ℕ) (hs out now : List ℕ) : Type 0 where
+-- a frontier, and the list and the peak so far: with the hashes left the walk ends with w; at most 2^42 targets are listed for each token
+pub record Under (w : Walked) (k : ℕ) (a : List ℕ) (n m : ℕ) (ts front : List ℕ) (peak count : ℕ) (hs out now : List ℕ) : Type 0 where
   pub list : List ℕ
   pub same : ended k a n m ts (on_tokens k a n m ts (at front list peak) hs) ≡ w
-  pub sized : size ≡ length list
-  pub most : size ≤ place * 4398046511104
+  pub counts : count ≡ length list
+  pub most : count + length hs * 4398046511104 ≤ 4097 * 4398046511104
   pub stored : now ≡ sets out 0 list
 
--- the token at a place, and the hashes left from there on
-module _ (subject : List ℕ) (place : ℕ) (r : Token) (e : r ≡ token_at subject place) where
-  module _ (start end next : ℕ) (f : r ≡ Part start end next) where
-    pub token_bounds : (start ≤ end) × (end ≤ length subject) × (place < next) × (next ≤ length subject + 1)
-    token_bounds =
-        let t = part-found subject place start end next r e f in
-        (t.within.0, t.within.1, t.moves.0, t.moves.1)
+-- a text has no more tokens than bytes, and one
+tokens_most : (bs : List ℕ) → length (tokens bs) ≤ length bs + 1
+tokens_most [] = omega arith
+tokens_most (b ∷ bs) = go (eqb b 0x2e) (tokens bs) (tokens_most bs)
+  where
+    go : (t : Bool) (ts : List (List ℕ)) → length ts ≤ length bs + 1 → length (cut_at t b ts) ≤ suc (length bs) + 1
+    go true ts h = omega arith
+    go false [] h = omega arith
+    go false (t ∷ ts) h = omega arith
 
-    pub hashes_next : (h : ℕ) → h ≡ fnv (part subject start (end - start)) → map fnv (tokens_from subject place) ≡ h ∷ map fnv (tokens_from subject next)
-    hashes_next h g = rw (g, (part-found subject place start end next r e f).left)
-
-  pub hashes_end : r ≡ End → map fnv (tokens_from subject place) ≡ []
-  hashes_end f = rw (tokens-end subject place (end-found subject place r e f))
+-- the hashes left, by the tokens left
+pub hashes-next : (left rest : List (List ℕ)) (token : List ℕ) (hash : ℕ) → left ≡ token ∷ rest → hash ≡ fnv token → map fnv left ≡ hash ∷ map fnv rest
+hashes-next left rest token hash e f = rw (e, f)
 
 module _ (k : ℕ) (a : List ℕ) (n m : ℕ) (ts : List ℕ) where
   -- the root alone
-  pub at-root : (subject front out : List ℕ) → 0 < length front
-      → Under (walk_over k a n m ts (map fnv (tokens subject))) k a n m ts (take 1 (set front 0 0)) 1 0 0 (map fnv (tokens_from subject 0)) out out
+  pub at-root : (subject out : List ℕ) → length subject ≤ 4096
+      → Under (walk_over k a n m ts (map fnv (tokens subject))) k a n m ts (0 ∷ []) 1 0 (map fnv (tokens subject)) out out
   unfolding walk_over
-  at-root subject front out h = record {
+  at-root subject out s = record {
     list = [];
-    same = rw (take-suc-set front 0 0 h, tokens-start subject);
-    sized = refl;
-    most = omega arith;
+    same = refl;
+    counts = refl;
+    most = rw length-map (omega (arith, tokens_most subject));
     stored = refl;
   }
 
@@ -71,63 +60,57 @@ module _ (k : ℕ) (a : List ℕ) (n m : ℕ) (ts : List ℕ) where
       let e : max peak 0 ≡ peak = omega arith in
       rw e (tokens_idle list peak hs)
 
-  module _ (w : Walked) (front : List ℕ) (peak size place : ℕ) (hs out now : List ℕ) (u : Under w k a n m ts front peak size place hs out now) where
+  module _ (w : Walked) (front : List ℕ) (peak count : ℕ) (hs out now : List ℕ) (u : Under w k a n m ts front peak count hs out now) where
     -- an empty frontier
-    pub stops : front ≡ [] → Finds w size peak out now
+    pub stops : front ≡ [] → Finds w count peak out now
     unfolding ended exact listed
     stops e = record {
       list = u.list;
       is = sym u.same ∙ rw (e, tokens_idle u.list peak hs);
-      sized = u.sized;
+      counts = u.counts;
       stored = u.stored;
     }
 
+    -- the end of the subject
     module _ (none : hs ≡ []) where
       last : listed k a n m ts peak (exact k a n m ts (level [] u.list) front) ≡ w
       unfolding on_tokens ended
       last = rw none at u.same
 
-      ends-damaged : exact 0 a 0 m ts (level [] []) front ≡ broken failure.Damaged → w ≡ failed failure.Damaged
+      pub ends-failed : (why : Failure) → exact 0 a 0 m ts (level [] []) front ≡ broken why → w ≡ failed why
       unfolding listed
-      ends-damaged e = sym last ∙ rw (exact-failed k a n m ts u.list front (exact-any k a n m ts (level [] []) front ∙ e))
+      ends-failed why e = sym last ∙ rw (exact-failed k a n m ts u.list front why (exact-any k a n m ts (level [] []) front ∙ e))
 
-      ends_found : (size1 i : ℕ) (after : List ℕ) → Added (exact 0 a 0 m ts (level [] []) front) [] size size1 i now after → Finds w size1 peak out after
+      pub ends_found : (count1 i r : ℕ) (after : List ℕ) → r ≡ min (length now) count
+          → Added (exact 0 a 0 m ts (level [] []) front) [] count1 i (take (length now - r) (drop r now)) after → Finds w (count + count1) peak out (put_mid r (length now - r) now after)
       unfolding listed
-      ends_found size1 i after v = record {
+      ends_found count1 i r after p v = record {
         list = u.list ++ v.list;
         is = sym last ∙ rw (exact-listed k a n m ts u.list front v.list (exact-any k a n m ts (level [] []) front ∙ v.is));
-        sized = rw (length-append u.list v.list) (let x = u.sized in let y = v.sized in omega arith);
-        stored = v.stored ∙ rw (u.sized, u.stored) (sym (sets_behind out u.list v.list));
+        counts = rw (length-append u.list v.list) (let x = u.counts in let y = v.counts in omega arith);
+        stored = behind_stored out u.list v.list now after r (rw u.counts at p) u.stored v.stored;
       }
 
-      pub ends_by : (list : Collected) (i : ℕ) (after : List ℕ) → Lists list now after size i (exact 0 a 0 m ts (level [] []) front)
-          → (r : declared.Walked) → r ≡ finished list peak → Ends r out after w
-      ends_by list i after v r q = rw q (go list v)
-        where
-          go : (x : Collected) → Lists x now after size i (exact 0 a 0 m ts (level [] []) front) → Ends (finished x peak) out after w
-          go (collected.Upto size1) y = ends_found size1 i after y
-          go collected.Damaged y = ends-damaged y
-
+    -- one token more
     module _ (h : ℕ) (rest : List ℕ) (some : hs ≡ h ∷ rest) where
       next : ended k a n m ts (on_tokens k a n m ts (arrived k a n m ts peak (visits k a n m ts h (level [] u.list) front)) rest) ≡ w
       unfolding on_tokens on_token
       next = rw some at u.same
 
-      -- limit and frontier as a call names them: k1 and front0
-      module _ (k1 : ℕ) (g : k1 ≡ k) where
-        pub goes_wrong : (why : Failure) → visits k1 a n m ts h (level [] []) front ≡ broken why → w ≡ failed why
-        unfolding arrived ended
-        goes_wrong why e = sym next ∙ rw (all_failed k a n m ts h u.list front why (rw g at e), tokens-stuck why rest)
+      pub goes_wrong : (why : Failure) → visits k a n m ts h (level [] []) front ≡ broken why → w ≡ failed why
+      unfolding arrived ended
+      goes_wrong why e = sym next ∙ rw (all_failed k a n m ts h u.list front why e, tokens-stuck why rest)
 
-        pub goes_on : (front0 front1 : List ℕ) → front0 ≡ front1 → (peak1 size1 place1 i : ℕ) (after : List ℕ) → Added (visits k1 a n m ts h (level [] []) front) front0 size size1 i now after
-            → peak1 ≡ max peak (length front1) → i ≤ 1024 → place < place1 → Under w k a n m ts front1 peak1 size1 place1 rest out after
-        unfolding arrived
-        goes_on front0 front1 c peak1 size1 place1 i after v0 p b q =
-            let v = (rw (g, c) at v0) in
-            record {
-              list = u.list ++ v.list;
-              same = rw p (rw (all_on k a n m ts h u.list front front1 v.list v.is) at next);
-              sized = rw (length-append u.list v.list) (let x = u.sized in let y = v.sized in omega arith);
-              most = let x = u.most in let y = v.most in omega arith;
-              stored = v.stored ∙ rw (u.sized, u.stored) (sym (sets_behind out u.list v.list));
-            }
+      pub goes_on : (front1 : List ℕ) (peak1 count1 r : ℕ) (after : List ℕ) → r ≡ min (length now) count
+          → Added (visits k a n m ts h (level [] []) front) front1 count1 1024 (take (length now - r) (drop r now)) after
+          → peak1 ≡ max (length front1) peak → Under w k a n m ts front1 peak1 (count + count1) rest out (put_mid r (length now - r) now after)
+      unfolding arrived
+      goes_on front1 peak1 count1 r after p v q =
+          let e : peak1 ≡ max peak (length front1) = omega arith in
+          record {
+            list = u.list ++ v.list;
+            same = rw e (rw (all_on k a n m ts h u.list front front1 v.list v.is) at next);
+            counts = rw (length-append u.list v.list) (let x = u.counts in let y = v.counts in omega arith);
+            most = let x = u.most in let y = v.most in let z = ap length some in omega arith;
+            stored = behind_stored out u.list v.list now after r (rw u.counts at p) u.stored v.stored;
+          }

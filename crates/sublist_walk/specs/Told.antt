@@ -1,116 +1,84 @@
 -- Only private contracts cite this file: what the answers of the walk's steps tell of the levels and walks of Walk.antt
-use Rattle.std.specs.Prelude.{ℕ, ◌+◌, ◌*◌, ◌≤◌, ◌≡◌, ◌⊎◌, List, [], map, length, take}
+use Rattle.std.specs.Prelude.{ℕ, ◌*◌, ◌≤◌, ◌≡◌, List, [], map, length, Option, None, Some, Result, Ok, Err}
 use Rattle.std.proofs.lemmas.List.Edits.{sets}
 use Rattle.subject_rules.specs.Text.{tokens}
 use Rattle.subject_rules.specs.Fnv.{fnv}
-use Rattle.sublist_area_rules.specs.declared.Child.{Child}
-use Rattle.sublist_area_rules.specs.declared.Child.TheVariants as child
 use Rattle.sublist_walk_rules.specs.declared.Failure.{Failure}
-use Rattle.sublist_walk_rules.specs.declared.Failure.TheVariants as failure
+use Rattle.sublist_walk_rules.specs.declared.Failure.TheVariants.{Wide}
+use Rattle.sublist_walk.specs.declared.Counted.{Counted}
 use Rattle.sublist_walk.specs.declared.TableMatch.{TableMatch}
-use Rattle.sublist_walk.specs.declared.TableMatch.TheVariants as match
-use Rattle.sublist_walk.specs.declared.Tried.{Tried}
-use Rattle.sublist_walk.specs.declared.Tried.TheVariants as try
-use Rattle.sublist_walk.specs.declared.Front.{Front}
-use Rattle.sublist_walk.specs.declared.Front.TheVariants as front
-use Rattle.sublist_walk.specs.declared.Collected.{Collected}
-use Rattle.sublist_walk.specs.declared.Collected.TheVariants as collected
-use Rattle.sublist_walk.specs.declared.Step.{Step}
-use Rattle.sublist_walk.specs.declared.Step.TheVariants as step
-use Rattle.sublist_walk.specs.declared.Walked as declared
-use Rattle.sublist_walk.specs.declared.Walked.TheVariants as walked
-use Rattle.sublist_walk_rules.specs.Walk.{Level, level, broken, Walked, found, failed, walk_over}
+use Rattle.sublist_walk.specs.declared.MatchError.{MatchError}
+use Rattle.sublist_walk.specs.declared.MatchError.TheVariants as error
+use Rattle.sublist_walk.specs.declared.TryError.{TryError}
+use Rattle.sublist_walk.specs.declared.TryError.TheVariants.{Damaged, OutShort}
+use Rattle.sublist_walk_rules.specs.Walk.{Level, level, broken, Walked, found, failed}
+use Rattle.sublist_walk_rules.specs.Walk.{collect, visit, visits, exact, walk_over}
 use Rattle.subject_rules.specs.Outputs.{outcome}
 use Rattle.sublist_walk_rules.specs.Matching.{written}
 use Rattle.sublist_walk.specs.Answers.{match_answer}
 
--- the walk of a subject within a limit
-abbrev pub walk_of : ℕ → ℕ → ℕ → List ℕ → List ℕ → List ℕ → Walked
-walk_of limit n m a ts subject = walk_over limit a n m ts (map fnv (tokens subject))
+-- the walk's steps and the walk over a table whose counts fit
+abbrev pub collect_in : Counted → ℕ → ℕ → Level → Level
+collect_in t field node s = collect t.node_words.now (length t.targets.now) t.targets.now field node s
 
--- a frontier of n nodes, where a lookup found none
-abbrev pub missed : Child → ℕ → Front
-missed (child.Node j) n = front.Upto n
-missed (child.Missing link) n = front.Upto n
-missed child.Damaged n = front.Failed failure.Damaged
+abbrev pub visit_in : ℕ → Counted → ℕ → Level → ℕ → Level
+visit_in limit t hash s node = visit limit t.node_words.now t.nodes (length t.targets.now) t.targets.now hash s node
 
--- a frontier and nothing listed
-unfoldable pub fronted : Front → List ℕ → Level
-fronted (front.Upto n) to = level (take n to) []
-fronted (front.Failed why) to = broken why
+abbrev pub visits_in : ℕ → Counted → ℕ → Level → List ℕ → Level
+visits_in limit t hash s nodes =
+    visits limit t.node_words.now t.nodes (length t.targets.now) t.targets.now hash s nodes
 
--- the frontier has at most k nodes
-abbrev pub Within : Front → ℕ → Type 0
-Within (front.Upto n) k = n ≤ k
-Within (front.Failed why) k = Unit {0}
+-- neither the limit nor the count of nodes matters to the exact targets
+abbrev pub exact_in : Counted → Level → List ℕ → Level
+exact_in t s nodes = exact 0 t.node_words.now 0 (length t.targets.now) t.targets.now s nodes
 
--- two frontiers take turns: each stands from the first place on, or behind k places
-abbrev pub Turn : ℕ → ℕ → Type 0
-Turn from k = (from ≡ 0) ⊎ (from ≡ k)
+abbrev pub walk_in : ℕ → Counted → List ℕ → Walked
+walk_in limit t subject =
+    walk_over limit t.node_words.now t.nodes (length t.targets.now) t.targets.now (map fnv (tokens subject))
 
--- the level s has the frontier `next` and a list. Behind the `at` targets before it the list makes `size`, at most 2^32
--- more for each node read, and the output, `out` before and `after` now, holds it from place `at` on, as far as that goes
-pub record Added (s : Level) (next : List ℕ) (at size nodes : ℕ) (out after : List ℕ) : Type 0 where
+-- the level s is this frontier, and nothing listed
+abbrev pub Joins : Result Unit Failure → List ℕ → Level → Type 0
+Joins (Ok u) to s = s ≡ level to []
+Joins (Err why) to s = s ≡ broken why
+
+-- the level s has the frontier `next` and a list of `count` targets, at most 2^32 for each of so many nodes; the output,
+-- `out` before and `after` now, holds it from the first place on, as far as that goes
+pub record Added (s : Level) (next : List ℕ) (count nodes : ℕ) (out after : List ℕ) : Type 0 where
   pub list : List ℕ
   pub is : s ≡ level next list
-  pub sized : size ≡ at + length list
-  pub most : size ≤ at + nodes * 4294967296
-  pub stored : after ≡ sets out at list
-
-abbrev pub Lists : Collected → List ℕ → List ℕ → ℕ → ℕ → Level → Type 0
-Lists (collected.Upto size) out after at nodes s = Added s [] at size nodes out after
-Lists collected.Damaged out after at nodes s = s ≡ broken failure.Damaged
-
-abbrev pub Reaches : Step → List ℕ → List ℕ → List ℕ → ℕ → ℕ → Level → Type 0
-Reaches (step.On n size) to out after at nodes s = (n ≤ length to) × Added s (take n to) at size nodes out after
-Reaches (step.Failed why) to out after at nodes s = s ≡ broken why
-
--- the walk w ends with this peak and a list of `size` targets, which the output holds from the first place on,
--- as far as that goes
-pub record Finds (w : Walked) (size peak : ℕ) (out after : List ℕ) : Type 0 where
-  pub list : List ℕ
-  pub is : w ≡ found list peak
-  pub sized : size ≡ length list
+  pub counts : count ≡ length list
+  pub most : count ≤ nodes * 4294967296
   pub stored : after ≡ sets out 0 list
 
-abbrev pub Ends : declared.Walked → List ℕ → List ℕ → Walked → Type 0
-Ends (walked.Found size peak) out after w = Finds w size peak out after
-Ends (walked.Failed why) out after w = w ≡ failed why
+abbrev pub Lists : Result ℕ Failure → List ℕ → List ℕ → List ℕ → ℕ → Level → Type 0
+Lists (Ok count) next out after nodes s = Added s next count nodes out after
+Lists (Err why) next out after nodes s = s ≡ broken why
 
--- the list behind the last token, as what the walk ends with
-abbrev pub finished : Collected → ℕ → declared.Walked
-finished (collected.Upto size) peak = walked.Found size peak
-finished collected.Damaged peak = walked.Failed failure.Damaged
+-- the walk w ends with this peak and a list of `count` targets, which the output holds from the first place on,
+-- as far as that goes
+pub record Finds (w : Walked) (count peak : ℕ) (out after : List ℕ) : Type 0 where
+  pub list : List ℕ
+  pub is : w ≡ found list peak
+  pub counts : count ≡ length list
+  pub stored : after ≡ sets out 0 list
 
--- the list that the walk w finds has `count` targets, and `list` begins with it if it has room for it
-abbrev pub Holding : Walked → ℕ → List ℕ → Type 0
-Holding w count list =
-    (l : List ℕ) (peak : ℕ) → w ≡ found l peak → (count ≡ length l) × (count ≤ length list → take count list ≡ l)
+abbrev pub Ends : Result TableMatch Failure → List ℕ → List ℕ → Walked → Type 0
+Ends (Ok m) out after w = Finds w m.count m.peak out after
+Ends (Err why) out after w = w ≡ failed why
 
--- the output holds the list that the walk w finds from the first place on, as far as that goes
-abbrev pub Wrote : Walked → List ℕ → List ℕ → Type 0
-Wrote w out after = (l : List ℕ) (peak : ℕ) → w ≡ found l peak → after ≡ sets out 0 l
-
--- a walk that failed, as a match within its limit
-abbrev pub tried : Failure → Tried
-tried failure.Wide = try.Wide
-tried failure.Damaged = try.Damaged
-
--- a match as told outside: 19 where a frontier would pass the limit
-abbrev pub settled : Tried → TableMatch
-settled (try.Listed count peak) = match.Listed count peak
-settled (try.OutShort needed) = match.OutShort needed
-settled try.Damaged = match.Damaged
-settled try.Wide = match.Damaged
+-- why a match within a limit turns back, as told outside
+abbrev pub settled : TryError → MatchError
+settled Damaged = error.Damaged
+settled (OutShort needed) = error.OutShort needed
 
 -- the walk w does not pass its limit, and the match answers r
-abbrev pub Answers : TableMatch → List ℕ → List ℕ → Walked → Type 0
-Answers r out after w = (w ≡ failed failure.Wide → ⊥) × (outcome (match_answer r) after ≡ written w out)
+pub record Answers (r : Result TableMatch MatchError) (out after : List ℕ) (w : Walked) : Type 0 where
+  pub fits : w ≡ failed Wide → ⊥
+  pub says : outcome (match_answer r) after ≡ written w out
 
 -- what a match within a limit says, where its walk is w: an answer; or that a frontier would pass the limit, and the
 -- output is as it was
-abbrev pub Tries : Tried → List ℕ → List ℕ → Walked → Type 0
-Tries (try.Listed count peak) out after w = Answers (match.Listed count peak) out after w
-Tries (try.OutShort needed) out after w = Answers (match.OutShort needed) out after w
-Tries try.Damaged out after w = Answers match.Damaged out after w
-Tries try.Wide out after w = (w ≡ failed failure.Wide) × (after ≡ out)
+abbrev pub Tries : Result (Option TableMatch) TryError → List ℕ → List ℕ → Walked → Type 0
+Tries (Ok (Some m)) out after w = Answers (Ok m) out after w
+Tries (Ok None) out after w = (w ≡ failed Wide) × (after ≡ out)
+Tries (Err e) out after w = Answers (Err (settled e)) out after w

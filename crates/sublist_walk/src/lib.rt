@@ -1,21 +1,20 @@
 // The walk of a subject over a table, and the match. A table is lent as counts and words, any counts and any words.
 #![tactic(auto)]
 
-ghost use Rattle.std.specs.Prelude.{◌≡◌, [], ◌+◌, ◌-◌, ◌/◌, ◌≤◌, ◌<◌, ◌^◌, length, take, get_or};
+ghost use Rattle.std.specs.Prelude.{◌≡◌, ℕ, ◌≤◌, ◌<◌, List, [], ◌∷◌, length, take, get_or};
 ghost use Rattle.std.proofs.lemmas.List.Edits.{sets};
-ghost use Rattle.subject_rules.specs.Answers.{answer, when_accepted};
-ghost use Rattle.subject.specs.Answers.{parsed};
-ghost use Rattle.sublist_walk_rules.specs.Walk.{part, among, level, collect, push, pushes, children};
-ghost use Rattle.sublist_walk_rules.specs.Walk.{visit, visits, exact};
+ghost use Rattle.sublist_walk_rules.specs.Walk.{among, level, push};
 ghost use Rattle.subject_rules.specs.Outputs.{outcome};
-ghost use Rattle.sublist_walk_rules.specs.Matching.{counts_fit, written, match_parsed, match_table};
+ghost use Rattle.sublist_walk_rules.specs.Matching.{counts_fit, match_parsed, match_table};
 ghost use Rattle.sublist_walk.specs.Answers.{match_answer};
-ghost use Rattle.sublist_walk.specs.Told.{walk_of, missed, fronted, Within, finished, tried, settled};
-ghost use Rattle.sublist_walk.specs.Told.{Turn, Lists, Reaches, Ends, Holding, Wrote, Tries};
+ghost use Rattle.sublist_walk.specs.Told.{collect_in, visit_in, visits_in, exact_in, walk_in, settled};
+ghost use Rattle.sublist_walk.specs.Told.{Joins, Lists, Ends, Tries};
 
-use subject::{MAX_TEXT, Parsed, SubjectError, Token};
-use sublist_area::{NODE_WORDS, larger, wide};
-use sublist_area_rules::Child;
+use std::marker::Model;
+use std::mem;
+use subject::{MAX_TEXT, SubjectError};
+use sublist_area::NODE_WORDS;
+use sublist_area_rules::{Child, ChildKey};
 use sublist_walk_rules::Failure;
 
 // The most nodes that a frontier may hold.
@@ -34,50 +33,137 @@ const EXACT: usize = 4;
 
 const TAILS: usize = 6;
 
-// A list's length and the largest frontier, or why a match turns back.
+// A table by its counts of nodes and targets, and the lent areas that have their words.
 #[derive(Clone, Copy)]
-pub enum TableMatch {
-    Listed { count: usize, peak: usize },
+pub struct Table<'a> {
+    pub nodes: usize,
+    pub targets: usize,
+    pub node_words: &'a [u32],
+    pub target_words: &'a [u32],
+}
+
+// A list's length and the largest frontier.
+#[derive(Clone, Copy)]
+pub struct TableMatch {
+    pub count: usize,
+    pub peak: usize,
+}
+
+// Why a match turns back: a refused text, a number that points outside, an output shorter than the list.
+#[derive(Clone, Copy)]
+pub enum MatchError {
     Invalid(SubjectError),
     Damaged,
     OutShort(usize),
 }
 
-// A frontier of so many nodes.
-#[derive(Clone, Copy)]
-enum Front {
-    Upto(usize),
-    Failed(Failure),
+impl From<SubjectError> for MatchError {
+    ghost use Rattle.sublist_walk.specs.declared.MatchError.{MatchError};
+
+    ghost from_gives = { λ e r. r ≡ MatchError.Invalid e };
+
+    fn from(error: SubjectError) -> MatchError {
+        MatchError::Invalid(error)
+    }
 }
 
-// A list of so many targets, or a number that points outside.
+// Why a match within a limit turns back. Without the case of a refused text it is handed back faster.
 #[derive(Clone, Copy)]
-enum Collected {
-    Upto(usize),
+enum TryError {
     Damaged,
-}
-
-// The sizes of the next frontier and of the list so far.
-#[derive(Clone, Copy)]
-enum Step {
-    On { front: usize, length: usize },
-    Failed(Failure),
-}
-
-// What a walk ends with: the list's length and the largest frontier.
-#[derive(Clone, Copy)]
-enum Walked {
-    Found { length: usize, peak: usize },
-    Failed(Failure),
-}
-
-// A match within a limit, or a frontier that would pass it. Without the case of a refused text it is handed back faster.
-#[derive(Clone, Copy)]
-enum Tried {
-    Listed { count: usize, peak: usize },
     OutShort(usize),
-    Damaged,
-    Wide,
+}
+
+impl From<TryError> for MatchError {
+    ghost from_gives = { λ e r. r ≡ settled e };
+
+    fn from(error: TryError) -> MatchError {
+        match error {
+            TryError::Damaged => MatchError::Damaged,
+            TryError::OutShort(needed) => MatchError::OutShort(needed),
+        }
+    }
+}
+
+// A table whose counts fit its areas: the words of its nodes, and the targets that it counts.
+#[derive(Clone, Copy)]
+struct Counted<'a> {
+    nodes: usize,
+    node_words: &'a [u32],
+    targets: &'a [u32],
+}
+
+// The nodes of a frontier, at most LIMIT: the first `count` of them.
+#[derive(Drop)]
+struct Frontier<const LIMIT: usize> {
+    nodes: [u32; LIMIT],
+    count: usize,
+}
+
+impl<const LIMIT: usize> Model for Frontier<LIMIT> {
+    ghost Value = { List ℕ };
+
+    ghost view = { λ f. take f.count f.nodes };
+
+    ghost invariant = { λ f. (f.count ≤ LIMIT) × (0 < LIMIT) × (LIMIT ≤ 1024) };
+}
+
+impl<const LIMIT: usize> Frontier<LIMIT> {
+    // Its nodes, in the order in which they joined.
+    fn nodes(&self) -> &[u32]
+        ensures nodes { result.now ≡ self.now }
+        ensures limit { length self.now ≤ 1024 }
+    {
+        &self.nodes[..self.count]
+    }
+
+    // The root alone.
+    fn restart(&mut self)
+        ensures { self.new ≡ 0 ∷ [] }
+    {
+        self.nodes[0] = 0;
+        self.count = 1;
+    }
+
+    // No node.
+    fn clear(&mut self)
+        ensures { self.new ≡ [] }
+    {
+        self.count = 0;
+    }
+
+    // A child joins, unless it is there.
+    fn push(&mut self, child: Child) -> Result<(), Failure>
+        ensures { Joins result self.new (push LIMIT (level self.old []) child) }
+    {
+        match child {
+            Child::Damaged => Err(Failure::Damaged),
+            Child::Missing(_) => Ok(()),
+            Child::Node(id) => {
+                if stands(self.nodes(), id) {
+                    return Ok(());
+                }
+                if self.count == LIMIT {
+                    return Err(Failure::Wide);
+                }
+                self.nodes[self.count] = id;
+                self.count += 1;
+                Ok(())
+            }
+        }
+    }
+}
+
+// Whether a node stands in a frontier. All are read: a loop with one way out compares several at once.
+#[tactic(auto, using(std::proofs::lemmas::List::Folds::list_any_more))]
+fn stands(front: &[u32], id: u32) -> bool
+    ensures { result ≡ among id front.now }
+{
+    let mut seen = false;
+    for node in front {
+        seen |= *node == id;
+    }
+    seen
 }
 
 // One of some words, 0 outside them.
@@ -85,551 +171,208 @@ fn word_at(words: &[u32], at: usize) -> usize
     ensures { (result ≡ get_or words.now at 0)
         × (result < 4294967296) }
 {
-    if at < words.len() {
-        return wide(words[at]);
-    }
-    0
+    words.get(at).copied().unwrap_or(0) as usize
 }
 
-// Whether a node stands among the first n of a frontier.
-// All n are read: a loop with one way out compares several at once.
-fn stands(front: &[u32], n: usize, id: u32) -> bool
-    requires { n ≤ length front.now }
-    ensures { result ≡ among id (take n front.now) }
+// Words are copied over the first of an output, as many as there is room for. Most often there are none, which a loop
+// passes over at once.
+fn copy_part(words: &[u32], out: &mut [u32])
+    ensures { out.new ≡ sets out.old 0 words.now }
 {
-    let mut seen = false;
-    let mut i = 0;
-    while i < n {
-        if front[i] == id {
-            seen = true;
-        }
-        i += 1;
-    }
-    seen
-}
-
-// A lookup that found no node: the frontier stays, unless the area made no sense.
-fn without_node(child: Child, n: usize) -> Front
-    ensures { result ≡ missed child n }
-{
-    match child {
-        Child::Damaged => Front::Failed(Failure::Damaged),
-        Child::Missing(_) => Front::Upto(n),
-        Child::Node(_) => Front::Upto(n),
+    let n = words.len().min(out.len());
+    for (i, word) in words[..n].iter().enumerate() {
+        out[i] = *word;
     }
 }
 
-// A child joins the first n nodes of a frontier, unless it is there.
-fn push_child(front: &mut [u32], n: usize, child: Child) -> Front
-    requires { n ≤ length front.old }
-    ensures { (fronted result front.new
-        ≡ push (length front.old) (level (take n front.old) []) child)
-        × Within result (length front.old) }
+// The targets that words `field` and `field` + 1 of a node say, start and count.
+fn collect(table: &Counted<'_>, field: usize, node: u32, out: &mut [u32]) -> Result<usize, Failure>
+    requires { field < 16 }
+    ensures { Lists result [] out.old out.new 1 (collect_in table.now field node (level [] [])) }
 {
-    let Child::Node(id) = child else {
-        return without_node(child, n);
-    };
-    if stands(front, n, id) {
-        return Front::Upto(n);
+    let place = node as usize * NODE_WORDS + field;
+    let start = word_at(table.node_words, place);
+    let count = word_at(table.node_words, place + 1);
+    if table.targets.len() < start + count {
+        return Err(Failure::Damaged);
     }
-    if n < front.len() {
-        front[n] = id;
-        return Front::Upto(n + 1);
-    }
-    Front::Failed(Failure::Wide)
-}
-
-// A part of some words is copied to the output from a place on, as far as that goes.
-fn copy_part(words: &[u32], start: usize, count: usize, out: &mut [u32], at: usize)
-    requires { (start + count ≤ length words.now)
-        × (at + count < 2 ^ 64) }
-    ensures { out.new ≡ sets out.old at (part words.now start count) }
-{
-    let size = out.len();
-    let mut i = 0;
-    while i < count {
-        if size <= at + i {
-            return;
-        }
-        out[at + i] = words[start + i];
-        i += 1;
-    }
-}
-
-// The targets that words `field` and `field` + 1 of a node say, start and count, behind a list of `at` targets.
-fn collect(
-    targets: usize,
-    node_words: &[u32],
-    target_words: &[u32],
-    node: u32,
-    field: usize,
-    out: &mut [u32],
-    at: usize,
-) -> Collected
-    requires { (field < 16)
-        × (targets ≤ length target_words.now)
-        × (at < 2 ^ 63) }
-    ensures { Lists result out.old out.new at 1
-        (collect node_words.now targets target_words.now field node (level [] [])) }
-{
-    let place = wide(node) * NODE_WORDS + field;
-    let start = word_at(node_words, place);
-    let count = word_at(node_words, place + 1);
-    if targets < start + count {
-        return Collected::Damaged;
-    }
-    copy_part(target_words, start, count, out, at);
-    Collected::Upto(at + count)
-}
-
-// The literal child of a node, then its `*` child, join the first n nodes of a frontier.
-fn push_children(
-    nodes: usize,
-    node_words: &[u32],
-    hash: u64,
-    node: u32,
-    to: &mut [u32],
-    n: usize,
-) -> Front
-    requires { n ≤ length to.old }
-    ensures { (fronted result to.new
-        ≡ pushes (length to.old) (level (take n to.old) [])
-        (children node_words.now nodes hash node))
-        × Within result (length to.old) }
-{
-    let literal = sublist_area::literal_child(node_words, nodes, node, hash);
-    let star = sublist_area::star_child(node_words, nodes, node);
-    match push_child(to, n, literal) {
-        Front::Failed(f) => Front::Failed(f),
-        Front::Upto(x) => push_child(to, x, star),
-    }
+    copy_part(&table.targets[start..start + count], out);
+    Ok(count)
 }
 
 // One node of a frontier and a token's hash: its `>` targets, then its literal child, then its `*` child.
-fn visit(
-    nodes: usize,
-    targets: usize,
-    node_words: &[u32],
-    target_words: &[u32],
+fn visit<const LIMIT: usize>(
+    table: &Counted<'_>,
     hash: u64,
     node: u32,
-    to: &mut [u32],
-    n: usize,
+    to: &mut Frontier<LIMIT>,
     out: &mut [u32],
-    at: usize,
-) -> Step
-    requires { (n ≤ length to.old)
-        × (targets ≤ length target_words.now)
-        × (at < 2 ^ 63) }
-    ensures { Reaches result to.new out.old out.new at 1
-        (visit (length to.old) node_words.now nodes targets target_words.now hash
-        (level (take n to.old) []) node) }
+) -> Result<usize, Failure>
+    ensures { Lists result to.new out.old out.new 1 (visit_in LIMIT table.now hash (level to.old []) node) }
 {
-    match collect(targets, node_words, target_words, node, TAILS, out, at) {
-        Collected::Damaged => Step::Failed(Failure::Damaged),
-        Collected::Upto(length) => match push_children(nodes, node_words, hash, node, to, n) {
-            Front::Failed(f) => Step::Failed(f),
-            Front::Upto(front) => Step::On { front, length },
-        },
-    }
+    let count = collect(table, TAILS, node, out)?;
+    let literal = sublist_area::child(table.node_words, table.nodes, node, ChildKey::Literal(hash));
+    let star = sublist_area::child(table.node_words, table.nodes, node, ChildKey::Star);
+    to.push(literal)?;
+    to.push(star)?;
+    Ok(count)
 }
 
-// The n nodes from place `from` on in turn, with a token's hash, behind a list of `at` targets.
-// Each frontier has a half of `both`: the next one stands in the other half.
-fn visit_front(
-    nodes: usize,
-    targets: usize,
-    node_words: &[u32],
-    target_words: &[u32],
+// The nodes of a frontier in turn, with a token's hash: their children become the next one.
+fn visit_front<const LIMIT: usize>(
+    table: &Counted<'_>,
     hash: u64,
-    both: &mut [u32],
-    from: usize,
-    n: usize,
+    nodes: &[u32],
+    to: &mut Frontier<LIMIT>,
     out: &mut [u32],
-    at: usize,
-) -> Step
-    requires { Turn from (length both.old / 2)
-        × (n ≤ length both.old / 2)
-        × (n ≤ 1024)
-        × (targets ≤ length target_words.now)
-        × (at < 2 ^ 62) }
-    ensures { Reaches result (part both.new (length both.old / 2 - from) (length both.old / 2))
-        out.old out.new at n
-        (visits (length both.old / 2) node_words.now nodes targets target_words.now
-        hash (level [] []) (part both.old from n)) }
+) -> Result<usize, Failure>
+    requires { length nodes.now ≤ 1024 }
+    ensures { Lists result to.new out.old out.new 1024 (visits_in LIMIT table.now hash (level [] []) nodes.now) }
 {
-    let limit = both.len() / 2;
-    let start = limit - from;
-    let end = start + limit;
-    let mut i = 0;
-    let mut next = 0;
-    let mut size = at;
-    while i < n {
-        let node = both[from + i];
-        let to = &mut both[start..end];
-        match visit(
-            nodes,
-            targets,
-            node_words,
-            target_words,
-            hash,
-            node,
-            to,
-            next,
-            out,
-            size,
-        ) {
-            Step::Failed(f) => return Step::Failed(f),
-            Step::On { front, length } => {
-                next = front;
-                size = length;
-            }
-        }
-        i += 1;
+    to.clear();
+    let mut count = 0;
+    for node in nodes {
+        let listed = out.len().min(count);
+        count += visit(table, hash, *node, to, &mut out[listed..])?;
     }
-    Step::On {
-        front: next,
-        length: size,
-    }
+    Ok(count)
 }
 
-// The exact targets of the first n nodes of a frontier, behind a list of `at` targets.
-fn collect_exact(
-    targets: usize,
-    node_words: &[u32],
-    target_words: &[u32],
-    from: &[u32],
-    n: usize,
-    out: &mut [u32],
-    at: usize,
-) -> Collected
-    requires { (n ≤ length from.now)
-        × (n ≤ 1024)
-        × (targets ≤ length target_words.now)
-        × (at < 2 ^ 62) }
-    ensures { Lists result out.old out.new at n
-        (exact 0 node_words.now 0 targets target_words.now (level [] [])
-        (take n from.now)) }
+// The exact targets of the nodes of a frontier.
+fn collect_exact(table: &Counted<'_>, nodes: &[u32], out: &mut [u32]) -> Result<usize, Failure>
+    requires { length nodes.now ≤ 1024 }
+    ensures { Lists result [] out.old out.new 1024 (exact_in table.now (level [] []) nodes.now) }
 {
-    let mut i = 0;
-    let mut size = at;
-    while i < n {
-        size = match collect(targets, node_words, target_words, from[i], EXACT, out, size) {
-            Collected::Upto(length) => length,
-            Collected::Damaged => {
-                return Collected::Damaged;
-            }
-        };
-        i += 1;
+    let mut count = 0;
+    for node in nodes {
+        let listed = out.len().min(count);
+        count += collect(table, EXACT, *node, &mut out[listed..])?;
     }
-    Collected::Upto(size)
-}
-
-// The list behind the last token, as what the walk ends with.
-fn finish(list: Collected, peak: usize) -> Walked
-    ensures { result ≡ finished list peak }
-{
-    match list {
-        Collected::Damaged => Walked::Failed(Failure::Damaged),
-        Collected::Upto(length) => Walked::Found { length, peak },
-    }
+    Ok(count)
 }
 
 // The list that a subject collects, from the root alone: as much of it as the output holds is written there.
-// The two frontiers take turns in the halves of `both`; the limit is the length of a half.
-fn walk(
-    nodes: usize,
-    targets: usize,
-    node_words: &[u32],
-    target_words: &[u32],
+// Two frontiers take turns as the one that stands and the next.
+fn walk<const LIMIT: usize>(
+    table: &Counted<'_>,
     subject: &[u8],
-    both: &mut [u32],
+    first: &mut Frontier<LIMIT>,
+    second: &mut Frontier<LIMIT>,
     out: &mut [u32],
-) -> Walked
-    requires { (2 ≤ length both.old)
-        × (length both.old ≤ 2048)
-        × (targets ≤ length target_words.now)
-        × (length subject.now ≤ 4096) }
-    ensures { Ends result out.old out.new
-        (walk_of (length both.old / 2) nodes targets node_words.now target_words.now
-        subject.now) }
+) -> Result<TableMatch, Failure>
+    requires { length subject.now ≤ 4096 }
+    ensures { Ends result out.old out.new (walk_in LIMIT table.now subject.now) }
 {
-    let limit = both.len() / 2;
-    both[0] = 0;
-    let mut from = 0;
-    let mut n = 1;
-    let mut size = 0;
+    let mut from = first;
+    let mut to = second;
+    from.restart();
+    let mut count = 0;
     let mut peak = 1;
-    let mut at = 0;
-    while n != 0 {
-        let Token::Part { start, end, next } = subject::token_at(subject, at) else {
-            let list = collect_exact(
-                targets,
-                node_words,
-                target_words,
-                &both[from..],
-                n,
-                out,
-                size,
-            );
-            return finish(list, peak);
-        };
-        let hash = subject::token_hash(&subject[start..end]);
-        match visit_front(
-            nodes,
-            targets,
-            node_words,
-            target_words,
-            hash,
-            both,
-            from,
-            n,
-            out,
-            size,
-        ) {
-            Step::Failed(f) => return Walked::Failed(f),
-            Step::On { front, length } => {
-                n = front;
-                size = length;
-            }
+    for token in subject::new(subject) {
+        let listed = out.len().min(count);
+        let hash = subject::token_hash(token);
+        count += visit_front(table, hash, from.nodes(), to, &mut out[listed..])?;
+        peak = to.nodes().len().max(peak);
+        if to.nodes().is_empty() {
+            return Ok(TableMatch { count, peak });
         }
-        peak = larger(peak, n);
-        from = limit - from;
-        at = next;
+        mem::swap(&mut from, &mut to);
     }
-    Walked::Found { length: size, peak }
+    let listed = out.len().min(count);
+    count += collect_exact(table, from.nodes(), &mut out[listed..])?;
+    Ok(TableMatch { count, peak })
 }
 
-// The list of a walk, of `count` targets, goes to the output: from `list`, to which the walk wrote as much as that
-// holds, or by a second walk.
-fn write_list(
-    nodes: usize,
-    targets: usize,
-    node_words: &[u32],
-    target_words: &[u32],
+// The match by a walk with frontiers of at most LIMIT nodes; None where one would pass that. A list of at most LIST
+// targets is copied to the output; a longer one is written there by a second walk, which finds the same.
+fn match_within<const LIMIT: usize, const LIST: usize>(
+    table: &Counted<'_>,
     subject: &[u8],
-    both: &mut [u32],
-    list: &[u32],
-    count: usize,
     out: &mut [u32],
-)
-    requires { (2 ≤ length both.old)
-        × (length both.old ≤ 2048)
-        × (targets ≤ length target_words.now)
-        × (length subject.now ≤ 4096)
-        × Holding (walk_of (length both.old / 2) nodes targets node_words.now target_words.now subject.now)
-        count list.now }
-    ensures { Wrote
-        (walk_of (length both.old / 2) nodes targets node_words.now target_words.now
-        subject.now) out.old out.new }
-{
-    if count <= list.len() {
-        copy_part(list, 0, count, out, 0);
-        return;
-    }
-    walk(nodes, targets, node_words, target_words, subject, both, out);
-}
-
-// A walk that failed, as a match within its limit.
-fn failed_try(failure: Failure) -> Tried
-    ensures { result ≡ tried failure }
-{
-    match failure {
-        Failure::Wide => Tried::Wide,
-        Failure::Damaged => Tried::Damaged,
-    }
-}
-
-// The match by a walk within the limit that is the length of a half of `both`, its list written to `list` first.
-fn match_within(
-    nodes: usize,
-    targets: usize,
-    node_words: &[u32],
-    target_words: &[u32],
-    subject: &[u8],
-    both: &mut [u32],
-    list: &mut [u32],
-    out: &mut [u32],
-) -> Tried
-    requires { (2 ≤ length both.old)
-        × (length both.old ≤ 2048)
-        × (targets ≤ length target_words.now)
+) -> Result<Option<TableMatch>, TryError>
+    requires { (0 < LIMIT)
+        × (LIMIT ≤ 1024)
+        × (LIST ≤ 2048)
         × (length subject.now ≤ 4096) }
-    ensures { Tries result out.old out.new
-        (walk_of (length both.old / 2) nodes targets node_words.now target_words.now
-        subject.now) }
+    ensures { Tries result out.old out.new (walk_in LIMIT table.now subject.now) }
 {
-    match walk(
-        nodes,
-        targets,
-        node_words,
-        target_words,
-        subject,
-        both,
-        list,
-    ) {
-        Walked::Failed(f) => failed_try(f),
-        Walked::Found { length, peak } => {
-            if out.len() < length {
-                return Tried::OutShort(length);
-            }
-            write_list(
-                nodes,
-                targets,
-                node_words,
-                target_words,
-                subject,
-                both,
-                list,
-                length,
-                out,
-            );
-            Tried::Listed {
-                count: length,
-                peak,
-            }
-        }
+    let mut first = Frontier {
+        nodes: [0; LIMIT],
+        count: 0,
+    };
+    let mut second = Frontier {
+        nodes: [0; LIMIT],
+        count: 0,
+    };
+    let mut list = [0; LIST];
+    let found = match walk(table, subject, &mut first, &mut second, &mut list) {
+        Ok(found) => found,
+        Err(Failure::Wide) => return Ok(None),
+        Err(Failure::Damaged) => return Err(TryError::Damaged),
+    };
+    if out.len() < found.count {
+        return Err(TryError::OutShort(found.count));
     }
-}
-
-// Two narrow frontiers and room for a short list.
-fn match_narrow(
-    nodes: usize,
-    targets: usize,
-    node_words: &[u32],
-    target_words: &[u32],
-    subject: &[u8],
-    out: &mut [u32],
-) -> Tried
-    requires { (targets ≤ length target_words.now)
-        × (length subject.now ≤ 4096) }
-    ensures { Tries result out.old out.new
-        (walk_of 32 nodes targets node_words.now target_words.now subject.now) }
-{
-    let mut both = [0u32; 2 * NARROW_FRONTIER];
-    let mut list = [0u32; SHORT_LIST];
-    match_within(
-        nodes,
-        targets,
-        node_words,
-        target_words,
-        subject,
-        &mut both,
-        &mut list,
-        out,
-    )
-}
-
-// A match as told outside: 19 where a frontier would pass the limit.
-fn settle(tried: Tried) -> TableMatch
-    ensures { result ≡ settled tried }
-{
-    match tried {
-        Tried::Listed { count, peak } => TableMatch::Listed { count, peak },
-        Tried::OutShort(needed) => TableMatch::OutShort(needed),
-        Tried::Damaged => TableMatch::Damaged,
-        Tried::Wide => TableMatch::Damaged,
+    if found.count <= LIST {
+        copy_part(&list[..found.count], out);
+        return Ok(Some(found));
     }
-}
-
-// The two widest frontiers and room for a long list.
-fn match_wide(
-    nodes: usize,
-    targets: usize,
-    node_words: &[u32],
-    target_words: &[u32],
-    subject: &[u8],
-    out: &mut [u32],
-) -> TableMatch
-    requires { (targets ≤ length target_words.now)
-        × (length subject.now ≤ 4096) }
-    ensures { outcome (match_answer result) out.new
-        ≡ written
-        (walk_of 1024 nodes targets node_words.now target_words.now subject.now)
-        out.old }
-{
-    let mut both = [0u32; 2 * MAX_FORK_FRONTIER];
-    let mut list = [0u32; LONG_LIST];
-    let tried = match_within(
-        nodes,
-        targets,
-        node_words,
-        target_words,
-        subject,
-        &mut both,
-        &mut list,
-        out,
-    );
-    settle(tried)
+    let _ = walk(table, subject, &mut first, &mut second, out);
+    Ok(Some(found))
 }
 
 // 19 on the counts: there is a node, and neither count exceeds its area.
-pub fn counts_fit(nodes: usize, targets: usize, node_words: &[u32], target_words: &[u32]) -> bool
-    ensures { result ≡ counts_fit nodes targets node_words.now target_words.now }
+pub fn counts_fit(table: &Table<'_>) -> bool
+    ensures { result
+        ≡ counts_fit table.now.nodes table.now.targets table.now.node_words.now table.now.target_words.now }
 {
-    if nodes == 0 {
-        return false;
-    }
-    if node_words.len() / NODE_WORDS < nodes {
-        return false;
-    }
-    targets <= target_words.len()
+    table.nodes != 0
+        && table.nodes <= table.node_words.len() / NODE_WORDS
+        && table.targets <= table.target_words.len()
 }
 
 // A match for a subject that the caller has parsed: 1, then 19, then 21.
 // Narrow frontiers come first; where one would pass its limit, all again within the widest.
+#[tactic(auto, using(crate::proofs::Writing::parsed_long, crate::proofs::Writing::parsed_outside))]
 pub fn match_parsed(
-    nodes: usize,
-    targets: usize,
-    node_words: &[u32],
-    target_words: &[u32],
+    table: &Table<'_>,
     subject: &[u8],
     out: &mut [u32],
-) -> TableMatch
+) -> Result<TableMatch, MatchError>
     ensures { outcome (match_answer result) out.new
-        ≡ match_parsed nodes targets node_words.now target_words.now subject.now
-        out.old }
+        ≡ match_parsed table.now.nodes table.now.targets table.now.node_words.now table.now.target_words.now
+        subject.now out.old }
 {
     if MAX_TEXT < subject.len() {
-        return TableMatch::Invalid(SubjectError::TooLong);
+        return Err(MatchError::Invalid(SubjectError::TooLong));
     }
-    if !counts_fit(nodes, targets, node_words, target_words) {
-        return TableMatch::Damaged;
+    if !counts_fit(table) {
+        return Err(MatchError::Damaged);
     }
-    let tried = match_narrow(nodes, targets, node_words, target_words, subject, out);
-    if let Tried::Wide = tried {
-        return match_wide(nodes, targets, node_words, target_words, subject, out);
-    }
-    settle(tried)
-}
-
-// The refusal of a subject's text, as that of a match.
-fn refused_subject(text: Parsed) -> TableMatch
-    ensures { match_answer result ≡ when_accepted (parsed text) (answer 19 []) }
-{
-    match text {
-        Parsed::Accepted(_) => TableMatch::Damaged,
-        Parsed::Refused(e) => TableMatch::Invalid(e),
+    let counted = Counted {
+        nodes: table.nodes,
+        node_words: table.node_words,
+        targets: &table.target_words[..table.targets],
+    };
+    match match_within::<NARROW_FRONTIER, SHORT_LIST>(&counted, subject, out)? {
+        Some(found) => Ok(found),
+        None => match_within::<MAX_FORK_FRONTIER, LONG_LIST>(&counted, subject, out)?.ok_or(
+            MatchError::Damaged,
+        ),
     }
 }
 
 // The list of the targets that a subject matches in a table, written over the first places of the output:
 // 1 to 9, then 19, then 21.
 pub fn match_table(
-    nodes: usize,
-    targets: usize,
-    node_words: &[u32],
-    target_words: &[u32],
+    table: &Table<'_>,
     subject: &[u8],
     out: &mut [u32],
-) -> TableMatch
+) -> Result<TableMatch, MatchError>
     ensures { outcome (match_answer result) out.new
-        ≡ match_table nodes targets node_words.now target_words.now subject.now
-        out.old }
+        ≡ match_table table.now.nodes table.now.targets table.now.node_words.now table.now.target_words.now
+        subject.now out.old }
 {
-    let text = subject::parse_literal(subject);
-    let Parsed::Accepted(_) = text else {
-        return refused_subject(text);
-    };
-    match_parsed(nodes, targets, node_words, target_words, subject, out)
+    subject::parse_literal(subject)?;
+    match_parsed(table, subject, out)
 }

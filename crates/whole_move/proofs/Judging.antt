@@ -1,13 +1,14 @@
 -- What a match with an output of one place says of its subject's verdict.
 use Prim.Native.Nat.{ℕ, ◌≤◌}
 use native.Mathlib.Omega.{arith}
-use mathlib.Core.Path.{◌≡◌, refl, sym, ◌∙◌, ap}
+use mathlib.Core.Path.{◌≡◌, refl, ◌∙◌, ap}
 use mathlib.Core.Bool.{Bool, true, false}
 use mathlib.Core.List.{List, [], ◌∷◌}
 use lib.Dec.{ltb}
 use lib.ListN.{length, take, drop, length-append}
 use lib.Seq.{take-append_seam}
 use borrow.Author.Tests.{ltb-true}
+use Rattle.std.proofs.Common.{Result, Ok, Err}
 use Rattle.subject.specs.declared.SubjectError.{SubjectError}
 use Rattle.subject.specs.declared.SubjectError.TheVariants.{TooLong, NotUtf8, Empty, TailWildcardNotLast, TooDeep, EmptyToken, WildcardNotAllowed, ControlChar, IllegalChar}
 use Rattle.subject_rules.specs.Choice.{pick}
@@ -16,29 +17,17 @@ use Rattle.subject_rules.specs.Outputs.{over, Outcome, outcome}
 use Rattle.subject.specs.Answers.{refusal}
 use Rattle.sublist_walk_rules.specs.Walk.{Walked, found, failed}
 use Rattle.sublist_walk_rules.specs.Matching.{written}
-use Rattle.sublist_snapshot.specs.declared.Generation.{Generation}
 use Rattle.sublist_snapshot.specs.declared.Snapshot.{Snapshot}
-use Rattle.sublist_snapshot.specs.declared.SnapshotMatch.{SnapshotMatch}
-use Rattle.sublist_snapshot.specs.Answers.{snapshot_answer}
 use Rattle.sublist_snapshot.specs.Snapshot.{stands_in, walk_of, with_generation, match_parsed_in}
 use Rattle.sublist_snapshot.proofs.Fronts.{parsed_match}
 use Rattle.sublist_snapshot.proofs.Standing.{match_walk}
+use Rattle.binding.specs.declared.Resolution.{Resolution}
 use Rattle.binding.specs.declared.Resolution.TheVariants.{Ambiguous}
 use Rattle.binding.specs.Verdict.{single_home}
 use Rattle.binding.proofs.Judging.{home_many}
-use Rattle.whole_move.specs.declared.Judgement.TheVariants.{Verdict, Damaged}
-use Rattle.whole_move.specs.Told.{Accepted, judgement}
-
--- an accepted subject, and counts that fit: the match answers by its walk
-pub match_says : (s : Snapshot) (area subject out after : List ℕ) → stands_in s area ≡ true → Accepted subject
-    → (r m : SnapshotMatch) → outcome (snapshot_answer r) after ≡ match_parsed_in s area subject out → r ≡ m
-    → outcome (snapshot_answer m) after ≡ with_generation s.generation (written (walk_of s area subject) out)
-match_says s area subject out after stands a r m e q =
-    ap (λ x. outcome (snapshot_answer x) after) (sym q)
-    ∙ e
-    ∙ parsed_match s area subject out a.values a.says
-    ∙ match_walk s area subject out
-    ∙ rw (stands, a.says)
+use Rattle.whole_move.specs.declared.MoveError.{MoveError}
+use Rattle.whole_move.specs.declared.MoveError.TheVariants.{Damaged}
+use Rattle.whole_move.specs.Told.{Accepted, verdict_of}
 
 -- a refusal's number
 abbrev number : Answer → ℕ
@@ -55,50 +44,64 @@ refusal-number (WildcardNotAllowed ch index) = omega arith
 refusal-number (ControlChar ch index) = omega arith
 refusal-number (IllegalChar ch index) = omega arith
 
-module _ (g : Generation) (out after : List ℕ) where
-  -- what a match says that found a list
-  abbrev finds : Bool → List ℕ → ℕ → Outcome
-  finds b list peak = with_generation g (pick b (outcome (answer 21 (length list ∷ [])) out) (outcome (answer 0 (length list ∷ peak ∷ [])) (over list out)))
+-- an accepted subject, and counts that fit: a is what the match answers, by its walk
+module _ (s : Snapshot) (area subject out after : List ℕ) (stands : stands_in s area ≡ true) (accepted : Accepted subject) (a : Answer)
+    (e : outcome a after ≡ match_parsed_in s area subject out) where
+  by_walk : outcome a after ≡ with_generation s.generation (written (walk_of s area subject) out)
+  by_walk = e ∙ parsed_match s area subject out accepted.values accepted.says ∙ match_walk s area subject out ∙ rw (stands, accepted.says)
 
-  pub judged-listed : (w : Walked) (count peak n : ℕ) → outcome (answer 0 (count ∷ peak ∷ n ∷ [])) after ≡ with_generation g (written w out)
-      → (count ≤ length after) × (Verdict (single_home (take count after)) ≡ judgement w)
-  judged-listed (failed why) count peak n q = let z : ◌≡◌ {A = ℕ} 0 19 = cc in absurd (omega arith)
-  judged-listed (found list p) count peak n q = go (ltb (length out) (length list)) q
+  -- the verdict is v
+  abbrev pub Verdict : Walked → Resolution → Type 0
+  Verdict w v = ◌≡◌ {A = Result Resolution MoveError} (Ok v) (verdict_of w)
+
+  -- what it answers where the walk found a list
+  abbrev finds : Bool → List ℕ → ℕ → Outcome
+  finds b list peak = with_generation s.generation (pick b (outcome (answer 21 (length list ∷ [])) out) (outcome (answer 0 (length list ∷ peak ∷ [])) (over list out)))
+
+  pub judged-listed : (count peak n : ℕ) → a ≡ answer 0 (count ∷ peak ∷ n ∷ []) → (count ≤ length after) × Verdict (walk_of s area subject) (single_home (take count after))
+  judged-listed count peak n h = go (walk_of s area subject) (rw h at by_walk)
     where
-      go : (b : Bool) → outcome (answer 0 (count ∷ peak ∷ n ∷ [])) after ≡ finds b list p
-          → (count ≤ length after) × (Verdict (single_home (take count after)) ≡ Verdict (single_home list))
-      go true q = let z : ◌≡◌ {A = ℕ} 0 21 = cc in absurd (omega arith)
-      go false q =
-          let counted : count ≡ length list = cc in
-          let left : after ≡ over list out = cc in
-          (rw (counted, left, length-append list (drop (length list) out)) (omega arith), rw (counted, left, take-append_seam list (drop (length list) out)))
+      go : (w : Walked) → outcome (answer 0 (count ∷ peak ∷ n ∷ [])) after ≡ with_generation s.generation (written w out) → (count ≤ length after) × Verdict w (single_home (take count after))
+      go (failed why) q = let z : ◌≡◌ {A = ℕ} 0 19 = cc in absurd (omega arith)
+      go (found list p) q = ends (ltb (length out) (length list)) q
+        where
+          ends : (b : Bool) → outcome (answer 0 (count ∷ peak ∷ n ∷ [])) after ≡ finds b list p → (count ≤ length after) × Verdict (found list p) (single_home (take count after))
+          ends true q = let z : ◌≡◌ {A = ℕ} 0 21 = cc in absurd (omega arith)
+          ends false q =
+              let counted : count ≡ length list = cc in
+              let left : after ≡ over list out = cc in
+              (rw (counted, left, length-append list (drop (length list) out)) (omega arith), rw (counted, left, take-append_seam list (drop (length list) out)))
 
   -- a list for which one place is too little counts by its length
-  pub judged-short : (w : Walked) (matched : ℕ) → length out ≡ 1 → outcome (answer 21 (matched ∷ [])) after ≡ with_generation g (written w out)
-      → Verdict (Ambiguous matched) ≡ judgement w
-  judged-short (failed why) matched one q = let z : ◌≡◌ {A = ℕ} 21 19 = cc in absurd (omega arith)
-  judged-short (found list p) matched one q = go (ltb (length out) (length list)) refl q
+  pub judged-short : (matched : ℕ) → a ≡ answer 21 (matched ∷ []) → length out ≡ 1 → Verdict (walk_of s area subject) (Ambiguous matched)
+  judged-short matched h one = go (walk_of s area subject) (rw h at by_walk)
     where
-      go : (b : Bool) → ltb (length out) (length list) ≡ b → outcome (answer 21 (matched ∷ [])) after ≡ finds b list p → Verdict (Ambiguous matched) ≡ Verdict (single_home list)
-      go true h q =
-          let counted : matched ≡ length list = cc in
-          let more = ltb-true (length out) (length list) h in
-          rw counted (ap Verdict (home_many list (λ z. omega arith) (λ z. omega arith)))
-      go false h q = let z : ◌≡◌ {A = ℕ} 21 0 = cc in absurd (omega arith)
+      go : (w : Walked) → outcome (answer 21 (matched ∷ [])) after ≡ with_generation s.generation (written w out) → Verdict w (Ambiguous matched)
+      go (failed why) q = let z : ◌≡◌ {A = ℕ} 21 19 = cc in absurd (omega arith)
+      go (found list p) q = ends (ltb (length out) (length list)) refl q
+        where
+          ends : (b : Bool) → ltb (length out) (length list) ≡ b → outcome (answer 21 (matched ∷ [])) after ≡ finds b list p → Verdict (found list p) (Ambiguous matched)
+          ends true k q =
+              let counted : matched ≡ length list = cc in
+              let more = ltb-true (length out) (length list) k in
+              rw counted (ap Ok (home_many list (λ z. omega arith) (λ z. omega arith)))
+          ends false k q = let z : ◌≡◌ {A = ℕ} 21 0 = cc in absurd (omega arith)
 
   -- neither 0 nor 21
-  judged_down : (w : Walked) (a : Answer) → 1 ≤ number a → number a ≤ 20 → outcome a after ≡ with_generation g (written w out) → Damaged ≡ judgement w
-  judged_down (failed why) a low high q = refl
-  judged_down (found list p) a low high q = absurd (go (ltb (length out) (length list)) q)
+  pub judged-down : 1 ≤ number a → number a ≤ 20 → Err Damaged ≡ verdict_of (walk_of s area subject)
+  judged-down low high = go (walk_of s area subject) by_walk
     where
-      go : (b : Bool) → outcome a after ≡ finds b list p → ⊥
-      go true q = let z : a ≡ answer 21 (length list ∷ []) = cc in omega (arith, ap number z)
-      go false q = let z : a ≡ answer 0 (length list ∷ p ∷ g.0 ∷ []) = cc in omega (arith, ap number z)
+      go : (w : Walked) → outcome a after ≡ with_generation s.generation (written w out) → Err Damaged ≡ verdict_of w
+      go (failed why) q = refl
+      go (found list p) q = absurd (ends (ltb (length out) (length list)) q)
+        where
+          ends : (b : Bool) → outcome a after ≡ finds b list p → ⊥
+          ends true q = let z : a ≡ answer 21 (length list ∷ []) = cc in omega (arith, ap number z)
+          ends false q = let z : a ≡ answer 0 (length list ∷ p ∷ s.generation.0 ∷ []) = cc in omega (arith, ap number z)
 
-  -- 19
-  pub judged-damaged : (w : Walked) → outcome (answer 19 []) after ≡ with_generation g (written w out) → Damaged ≡ judgement w
-  judged-damaged w q = judged_down w (answer 19 []) (omega arith) (omega arith) q
-
-  -- 1 to 9, which no accepted subject gets
-  pub judged-invalid : (w : Walked) (e : SubjectError) → outcome (refusal e) after ≡ with_generation g (written w out) → Damaged ≡ judgement w
-  judged-invalid w e q = let n = refusal-number e in judged_down w (refusal e) n.0 (omega arith) q
+-- 1 to 9, which no accepted subject gets
+pub judged-invalid : (s : Snapshot) (area subject out after : List ℕ) → stands_in s area ≡ true → Accepted subject → (e : SubjectError)
+    → outcome (refusal e) after ≡ match_parsed_in s area subject out → Err Damaged ≡ verdict_of (walk_of s area subject)
+judged-invalid s area subject out after stands accepted e q =
+    let n = refusal-number e in
+    judged-down s area subject out after stands accepted (refusal e) q n.0 (omega arith)

@@ -1,23 +1,22 @@
 // Up to 64 subjects routed together by the standing table, or none of them. Not in the original.
 #![tactic(auto)]
 
-ghost use Rattle.std.specs.Prelude.{◌≡◌, true, map, ◌/◌, ◌≤◌, length, take};
+ghost use Rattle.std.specs.Prelude.{◌≡◌, ◌≤◌, true, map, length, take};
 ghost use Rattle.std.proofs.Math.Option.{none};
-ghost use Rattle.subject.specs.Answers.{parsed};
-ghost use Rattle.subject_rules.specs.Outputs.{over};
 ghost use Rattle.sublist_snapshot.specs.Snapshot.{stands_in, walk_of};
-ghost use Rattle.whole_move_rules.specs.Move.{spans_in, text_at, bad_text, bad_subject, bad_subjects, routes, whole_move};
+ghost use Rattle.whole_move_rules.specs.Move.{spans_in, text_at, bad_subject, bad_subjects, routes, whole_move};
 ghost use Rattle.whole_move.specs.Answers.{moved};
-ghost use Rattle.whole_move.specs.Told.{span, checked, judgement, Accepted, routes_told, Counted, route_all};
+ghost use Rattle.whole_move.specs.Told.{span_of, refused, Accepted, verdict_of, told};
 
 use binding::Resolution;
-use subject::{Parsed, SubjectError};
-use sublist_snapshot::{Snapshot, SnapshotMatch};
+use subject::SubjectError;
+use sublist_snapshot::Snapshot;
+use sublist_walk::MatchError;
 
 // The most subjects of a move.
 pub const MAX_MOVE: usize = 64;
 
-// So many targets are written; or the first subject that is not Routed, and its verdict; or why the move is refused.
+// So many targets are written; or the first subject that is not Routed, and its verdict.
 #[derive(Clone, Copy)]
 pub enum WholeMove {
     Routed(usize),
@@ -25,169 +24,94 @@ pub enum WholeMove {
         place: usize,
         resolution: Resolution,
     },
+}
+
+// Why a move is refused.
+#[derive(Clone, Copy)]
+pub enum MoveError {
     SetTooLarge,
     BadEntry(usize),
-    Invalid {
-        place: usize,
-        error: SubjectError,
-    },
+    Invalid { place: usize, error: SubjectError },
     Damaged,
     OutShort(usize),
 }
 
-// Whether subjects lie in the bytes and are accepted, or the first that is not.
+// Subjects of a move, start and length of each: they lie in the bytes and are accepted.
 #[derive(Clone, Copy)]
-enum SubjectCheck {
-    Sound,
-    Outside(usize),
-    Invalid { place: usize, error: SubjectError },
+struct Subjects<'a> {
+    bytes: &'a [u8],
+    spans: &'a [[usize; 2]],
+    ghost few: { length spans.now ≤ 64 },
+    ghost sound: { bad_subjects bytes.now 0 (map span_of spans.now) ≡ none },
 }
 
-// What the walk of a subject says.
+// The standing table, whose counts fit its area.
 #[derive(Clone, Copy)]
-enum Judgement {
-    Verdict(Resolution),
-    Damaged,
-}
-
-// The refusal of a subject's text, with its place.
-fn refused_subject(place: usize, text: Parsed) -> SubjectCheck
-    ensures { checked result ≡ bad_text place (parsed text) }
-{
-    match text {
-        Parsed::Accepted(_) => SubjectCheck::Sound,
-        Parsed::Refused(error) => SubjectCheck::Invalid { place, error },
-    }
-}
-
-// 12 before 1 to 9. The end is not reckoned before it is known to lie in the bytes.
-fn check_subject(bytes: &[u8], place: usize, start: usize, size: usize) -> SubjectCheck
-    ensures { checked result ≡ bad_subject bytes.now place (span start size) }
-{
-    if bytes.len() < start {
-        return SubjectCheck::Outside(place);
-    }
-    if bytes.len() - start < size {
-        return SubjectCheck::Outside(place);
-    }
-    let end = start + size;
-    refused_subject(place, subject::parse_literal(&bytes[start..end]))
-}
-
-// The earliest subject that is not sound. Two numbers a subject: start and length.
-fn check_subjects(bytes: &[u8], spans: &[usize]) -> SubjectCheck
-    ensures { checked result ≡ bad_subjects bytes.now 0 (spans_in spans.now) }
-{
-    let count = spans.len() / 2;
-    let mut i = 0;
-    while i < count {
-        let at = 2 * i;
-        let check = check_subject(bytes, i, spans[at], spans[at + 1]);
-        let SubjectCheck::Sound = check else {
-            return check;
-        };
-        i += 1;
-    }
-    SubjectCheck::Sound
-}
-
-// The verdict on an accepted subject. An output of one place is enough: a longer list counts only by its length.
-fn judge(snapshot: Snapshot, area: &[u32], subject: &[u8]) -> Judgement
-    requires standing { stands_in snapshot area.now ≡ true }
-    requires accepted { Accepted subject.now }
-    ensures { result ≡ judgement (walk_of snapshot area.now subject.now) }
-{
-    let mut one = [0u32; 1];
-    match snapshot.match_parsed(area, subject, &mut one) {
-        SnapshotMatch::Listed {
-            count,
-            peak: _,
-            generation: _,
-        } => Judgement::Verdict(binding::single_home(&one[..count])),
-        SnapshotMatch::OutShort(matched) => Judgement::Verdict(Resolution::Ambiguous { matched }),
-        SnapshotMatch::Damaged => Judgement::Damaged,
-        SnapshotMatch::Invalid(_) => Judgement::Damaged,
-    }
-}
-
-// The subjects in turn, each Routed one's target put in its place, up to the first that is not Routed.
-fn route_subjects(
+struct Standing<'a> {
     snapshot: Snapshot,
-    area: &[u32],
-    bytes: &[u8],
-    spans: &[usize],
-    targets: &mut [u32],
-) -> WholeMove
-    requires standing { stands_in snapshot area.now ≡ true }
-    requires sound { bad_subjects bytes.now 0 (spans_in spans.now) ≡ none }
-    requires room { length spans.now / 2 ≤ length targets.old }
-    ensures { (routes_told result targets.new
-        ≡ routes (walk_of snapshot area.now) 0
-        (map (text_at bytes.now) (spans_in spans.now)))
-        × Counted result targets.new }
-{
-    let count = spans.len() / 2;
-    let mut i = 0;
-    while i < count {
-        let at = 2 * i;
-        let start = spans[at];
-        let end = start + spans[at + 1];
-        let Judgement::Verdict(resolution) = judge(snapshot, area, &bytes[start..end]) else {
-            return WholeMove::Damaged;
-        };
-        let Resolution::Routed(target) = resolution else {
-            return WholeMove::Stopped {
-                place: i,
-                resolution,
+    area: &'a [u32],
+    ghost fits: { stands_in snapshot area.now ≡ true },
+}
+
+impl Standing<'_> {
+    // The verdict on an accepted subject. An output of one place is enough: a longer list counts only by its length.
+    fn verdict(&self, subject: &[u8]) -> Result<Resolution, MoveError>
+        requires { Accepted subject.now }
+        ensures { result ≡ verdict_of (walk_of self.now.snapshot self.now.area.now subject.now) }
+    {
+        let mut one = [0u32; 1];
+        match self.snapshot.match_parsed(self.area, subject, &mut one) {
+            Ok(found) => Ok(binding::single_home(&one[..found.count])),
+            Err(MatchError::OutShort(matched)) => Ok(Resolution::Ambiguous { matched }),
+            Err(MatchError::Damaged) => Err(MoveError::Damaged),
+            // No accepted subject gets this.
+            Err(MatchError::Invalid(_)) => Err(MoveError::Damaged),
+        }
+    }
+
+    // The subjects in turn, each Routed one's target put in its place, up to the first that is not Routed, which is
+    // told by its place and its verdict.
+    fn route(
+        &self,
+        subjects: &Subjects<'_>,
+        targets: &mut [u32; MAX_MOVE],
+    ) -> Result<Option<(usize, Resolution)>, MoveError>
+        ensures { told result (take (length subjects.now.spans.now) targets.new)
+            ≡ routes (walk_of self.now.snapshot self.now.area.now) 0
+            (map (text_at subjects.now.bytes.now) (map span_of subjects.now.spans.now)) }
+    {
+        for (place, span) in subjects.spans.iter().enumerate() {
+            let end = span[0] + span[1];
+            let resolution = self.verdict(&subjects.bytes[span[0]..end])?;
+            let Some(target) = resolution.routed() else {
+                return Ok(Some((place, resolution)));
             };
-        };
-        targets[i] = target;
-        i += 1;
-    }
-    WholeMove::Routed(count)
-}
-
-// The first n targets are written over the first places of the output.
-fn write_targets(targets: &[u32], n: usize, out: &mut [u32])
-    requires { (n ≤ length targets.now)
-        × (n ≤ length out.old) }
-    ensures { out.new ≡ over (take n targets.now) out.old }
-{
-    let mut i = 0;
-    while i < n {
-        out[i] = targets[i];
-        i += 1;
+            targets[place] = target;
+        }
+        Ok(None)
     }
 }
 
-// The verdicts on subjects that are sound: 19, then the first that is not Routed, then 21. Targets are kept until all
-// are known.
-fn route_all(
-    snapshot: Snapshot,
-    area: &[u32],
-    bytes: &[u8],
-    spans: &[usize],
-    out: &mut [u32],
-) -> WholeMove
-    requires few { length (spans_in spans.now) ≤ 64 }
-    requires sound { bad_subjects bytes.now 0 (spans_in spans.now) ≡ none }
-    ensures { moved result out.new
-        ≡ route_all snapshot area.now bytes.now (spans_in spans.now)
-        out.old }
+// 12 before 1 to 9.
+fn check_subject(bytes: &[u8], place: usize, span: &[usize; 2]) -> Result<(), MoveError>
+    ensures { refused result ≡ bad_subject bytes.now place (span_of span.now) }
 {
-    if !snapshot.stands_in(area) {
-        return WholeMove::Damaged;
+    let text = bytes
+        .get(span[0]..)
+        .and_then(|rest| rest.get(..span[1]))
+        .ok_or(MoveError::BadEntry(place))?;
+    subject::parse_literal(text).map_err(|error| MoveError::Invalid { place, error })?;
+    Ok(())
+}
+
+// The earliest subject that is not sound.
+fn check_subjects(bytes: &[u8], spans: &[[usize; 2]]) -> Result<(), MoveError>
+    ensures { refused result ≡ bad_subjects bytes.now 0 (map span_of spans.now) }
+{
+    for (place, span) in spans.iter().enumerate() {
+        check_subject(bytes, place, span)?;
     }
-    let mut targets = [0u32; MAX_MOVE];
-    let routed = route_subjects(snapshot, area, bytes, spans, &mut targets);
-    let WholeMove::Routed(count) = routed else {
-        return routed;
-    };
-    if out.len() < count {
-        return WholeMove::OutShort(count);
-    }
-    write_targets(&targets, count, out);
-    routed
+    Ok(())
 }
 
 // Each subject's Routed target, in list order, over the first places of the output; or the first subject that is not
@@ -199,17 +123,30 @@ pub fn whole_move(
     bytes: &[u8],
     spans: &[usize],
     out: &mut [u32],
-) -> WholeMove
+) -> Result<WholeMove, MoveError>
     ensures { moved result out.new
         ≡ whole_move snapshot area.now bytes.now (spans_in spans.now)
         out.old }
 {
-    if MAX_MOVE < spans.len() / 2 {
-        return WholeMove::SetTooLarge;
+    // Kept: the spans are plain numbers, two a subject, since the C interface lends them.
+    let (spans, _) = spans.as_chunks::<2>();
+    let count = spans.len();
+    if MAX_MOVE < count {
+        return Err(MoveError::SetTooLarge);
     }
-    match check_subjects(bytes, spans) {
-        SubjectCheck::Outside(place) => WholeMove::BadEntry(place),
-        SubjectCheck::Invalid { place, error } => WholeMove::Invalid { place, error },
-        SubjectCheck::Sound => route_all(snapshot, area, bytes, spans, out),
+    check_subjects(bytes, spans)?;
+    if !snapshot.stands_in(area) {
+        return Err(MoveError::Damaged);
     }
+    let subjects = Subjects { bytes, spans };
+    let table = Standing { snapshot, area };
+    let mut targets = [0u32; MAX_MOVE];
+    if let Some((place, resolution)) = table.route(&subjects, &mut targets)? {
+        return Ok(WholeMove::Stopped { place, resolution });
+    }
+    if out.len() < count {
+        return Err(MoveError::OutShort(count));
+    }
+    out[..count].copy_from_slice(&targets[..count]);
+    Ok(WholeMove::Routed(count))
 }

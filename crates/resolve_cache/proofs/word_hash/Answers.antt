@@ -1,21 +1,14 @@
-use Rattle.std.proofs.Common.{refl, arith}
-use native.Mathlib.Nat.{sub-zero}
-use Rattle.resolve_cache.proofs.Marks.{words_none, words_turn, words-end}
+-- `resolve_cache::word_hash` meets its contract. Assumes nothing.
+use Rattle.std.proofs.Common.{rules, ◌≡◌, ◌+◌, ◌/◌, length, ap, ◌∙◌, arith}
+use Rattle.std.proofs.lemmas.Iterator.{YieldsList-from_range}
+use Rattle.std.proofs.lemmas.Iterator.Consumers.{fold_from_yields_List}
+use Rattle.resolve_cache_rules.specs.Mark.{hash_from}
+use Rattle.resolve_cache.proofs.Hashes.{with_word, fold_words}
 use Rattle.resolve_cache.proofs.word_hash.Goals as goal
-
-pub returns-then-text-eq0 : goal.returns-then-text-eq0
-returns-then-text-eq0 c = words_none _ 0xcbf29ce484222325 (omega arith)
-
-pub loop-i-init : goal.loop-i-init
-loop-i-init c = (omega arith, rw sub-zero)
-
-pub loop-i-preserved : goal.loop-i-preserved
-loop-i-preserved c = (
-  omega arith,
-  words_turn _ c.loop-i.h c.loop-i.i _ c.loop-i.invariant.1 _ c.word_at.ensures c.mix_word-h.ensures refl (omega arith),
-)
 
 pub returns : goal.returns
 returns c =
-    words-end _ c.loop-i.h c.loop-i.i _ c.loop-i.invariant.1 _ c.word_at-2.ensures c.mix_word.ensures
-    c.last_word.ensures (omega arith) (omega arith)
+    let all = fold_from_yields_List _ (with_word c.args.text.now) 0xcbf29ce484222325 _ c.fold.ensures.ran
+    (YieldsList-from_range 0 c.div_ceil.result c.div_ceil.result (cc) (omega arith)) (λ a x b q k. search rules) in
+    let n : c.div_ceil.result ≡ (length c.args.text.now + 7) / 8 = omega (arith, c.div_ceil.ensures) in
+    all ∙ fold_words c.args.text.now 0xcbf29ce484222325 0 c.div_ceil.result ∙ ap (hash_from c.args.text.now 0xcbf29ce484222325 0) n

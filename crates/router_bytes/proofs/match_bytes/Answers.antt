@@ -1,25 +1,31 @@
 -- `router_bytes::match_bytes` meets its contract: 99, or the match on copies.
-use mathlib.Core.Path.{sym, ◌∙◌}
-use Prim.Native.Nat.{◌+◌, ◌≤◌}
-use lib.ListN.{length}
-use borrow.Author.Tests.{ltb-true, ltb-false}
-use borrow.Author.Rules.{rules}
-use Rattle.router_bytes_rules.specs.Bytes.{copy_bytes}
-use Rattle.router_bytes_rules.proofs.Limits.{match_taken, match_99}
+use Rattle.std.proofs.Common.{◌+◌, ◌≤◌, ◌<◌, length, sym, arith}
+use Rattle.std.proofs.lemmas.Result.{err_from_is_err_and}
+use Rattle.router_bytes_rules.proofs.Limits.{match_99}
+use Rattle.router_bytes.proofs.Copies.{fit, refused, matched}
 use Rattle.router_bytes.proofs.match_bytes.Goals as goal
 
-pub returns-then-copy_full : goal.returns-then-copy_full
-returns-then-copy_full c =
-    sym (match_99 c.args.nodes c.args.targets c.args.node_bytes.now c.args.target_bytes.now c.args.subject.now c.args.out_bytes.now
-    (ltb-true copy_bytes _ (sym c.copy_full.ensures ∙ c.if-copy_full.true)))
+pub returns-then-copies_full : goal.returns-then-copies_full
+returns-then-copies_full c =
+    let over : 65536 < length c.args.node_bytes.now + length c.args.target_bytes.now + length c.args.out_bytes.now =
+    omega (arith, c.if-copies_full.ensures) in
+    sym (match_99 c.args.nodes c.args.targets c.args.node_bytes.now c.args.target_bytes.now c.args.subject.now c.args.out_bytes.now over)
 
-pub match_copies-requires : goal.match_copies-requires
-match_copies-requires c =
-    let few : length c.args.node_bytes.now + length c.args.target_bytes.now + length c.args.out_bytes.now ≤ copy_bytes = ltb-false copy_bytes _ (sym c.copy_full.ensures ∙ c.if-copy_full.false) in
-    search rules
+pub store-requires : goal.store-requires
+store-requires c = fit 4 c.args.out_bytes.now c.load-out.result.0.now c.match_table.new.out c.load-out.ensures.loaded c.match_table.auto.out
+
+pub returns-in_err-found : goal.returns-in_err-found
+returns-in_err-found c =
+    let small : length c.args.node_bytes.now + length c.args.target_bytes.now + length c.args.out_bytes.now ≤ 65536 = omega (arith, c.if-copies_full.ensures) in
+    let p = err_from_is_err_and c.from_residual.result c.from_residual.ensures.1 in
+    rw (p.1, p.2)
+    (matched c.args.nodes c.args.targets c.args.node_bytes.now c.args.target_bytes.now c.args.subject.now c.args.out_bytes.now small
+    _ c.match_table.new.out _ _ _ _ c.load-node_words.ensures.loaded c.load-target_words.ensures.loaded c.load-out.ensures.loaded
+    c.in_err-found.ensures (refused c.in_err-found.field-0.0 _ _))
 
 pub returns : goal.returns
 returns c =
-    c.match_copies.ensures
-    ∙ sym (match_taken c.args.nodes c.args.targets c.args.node_bytes.now c.args.target_bytes.now c.args.subject.now c.args.out_bytes.now
-    (ltb-false copy_bytes _ (sym c.copy_full.ensures ∙ c.if-copy_full.false)))
+    let small : length c.args.node_bytes.now + length c.args.target_bytes.now + length c.args.out_bytes.now ≤ 65536 = omega (arith, c.if-copies_full.ensures) in
+    matched c.args.nodes c.args.targets c.args.node_bytes.now c.args.target_bytes.now c.args.subject.now c.args.out_bytes.now small
+    _ _ _ _ _ _ c.load-node_words.ensures.loaded c.load-target_words.ensures.loaded c.load-out.ensures.loaded
+    c.in_ok-found.ensures c.store.ensures

@@ -1,28 +1,41 @@
 -- `router_bytes::resolve_bytes` meets its contract: 99, or the resolve on copies.
-use mathlib.Core.Path.{sym, ◌∙◌}
-use Prim.Native.Nat.{◌+◌, ◌≤◌}
-use lib.ListN.{length}
-use borrow.Author.Tests.{ltb-true, ltb-false}
-use borrow.Author.Rules.{rules}
+use Rattle.std.proofs.Common.{◌≡◌, true, false, ◌+◌, ◌≤◌, ◌<◌, length, sym, ◌∙◌, arith}
+use Rattle.std.proofs.Common.{rules}
 use Rattle.resolve_cache_rules.specs.Answers.{lent}
-use Rattle.router_bytes_rules.specs.Bytes.{copy_bytes}
-use Rattle.router_bytes_rules.proofs.Limits.{resolve-taken, resolve_99}
-use Rattle.router_bytes.proofs.Resolving.{told-bytes}
+use Rattle.resolve_cache.specs.Answers.{resolve_answer}
+use Rattle.router_bytes.specs.Answers.{bytes_answer}
+use Rattle.router_bytes_rules.proofs.Limits.{resolve_99}
+use Rattle.router_bytes.proofs.Copies.{fit, wrote, stayed}
+use Rattle.router_bytes.proofs.Resolving.{resolved}
 use Rattle.router_bytes.proofs.resolve_bytes.Goals as goal
+use Rattle.router_bytes.proofs.resolve_bytes.Goals.{then-is_ok, else-is_ok}
 
 pub returns-then-copies_full : goal.returns-then-copies_full
 returns-then-copies_full c =
-    sym (resolve_99 c.args.cache (lent c.args.stamps.now c.args.keys.now c.args.kept.now) c.args.snapshot c.args.area.now c.args.subject.now c.args.out.now
-    (ltb-true copy_bytes _ (sym c.copies_full.ensures ∙ c.if-copies_full.true)))
+    let over : 65536 < length c.args.stamps.now + length c.args.kept.now + length c.args.area.now + length c.args.out.now =
+    omega (arith, c.if-copies_full.ensures) in
+    sym (resolve_99 c.args.cache (lent c.args.stamps.now c.args.keys.now c.args.kept.now) c.args.snapshot c.args.area.now c.args.subject.now c.args.out.now over)
 
-pub resolve_copies-requires : goal.resolve_copies-requires
-resolve_copies-requires c =
-    let few : length c.args.stamps.now + length c.args.kept.now + length c.args.area.now + length c.args.out.now ≤ copy_bytes = ltb-false copy_bytes _ (sym c.copies_full.ensures ∙ c.if-copies_full.false) in
-    search rules
+pub store-requires : goal.store-requires
+store-requires c = fit 8 c.args.stamps.now c.load-stamp_numbers.result.0.now c.resolve-resolved.new.stamps c.load-stamp_numbers.ensures.loaded c.resolve-resolved.auto.stamps
+
+pub store-requires-then-is_ok : goal.store-requires-then-is_ok
+store-requires-then-is_ok c = fit 4 c.args.kept.now c.load-kept_words.result.0.now c.resolve-resolved.new.kept c.load-kept_words.ensures.loaded c.resolve-resolved.auto.kept
+
+pub store-requires-then-is_ok-2 : goal.store-requires-then-is_ok-2
+store-requires-then-is_ok-2 c = fit 4 c.args.out.now c.load-out_words.result.0.now c.resolve-resolved.new.out c.load-out_words.ensures.loaded c.resolve-resolved.auto.out
 
 pub returns : goal.returns
 returns c =
-    told-bytes c.told.result c.resolve_copies.result _ _ c.told.ensures
-    ∙ c.resolve_copies.ensures
-    ∙ sym (resolve-taken c.args.cache (lent c.args.stamps.now c.args.keys.now c.args.kept.now) c.args.snapshot c.args.area.now c.args.subject.now c.args.out.now
-    (ltb-false copy_bytes _ (sym c.copies_full.ensures ∙ c.if-copies_full.false)))
+    let small : length c.args.stamps.now + length c.args.kept.now + length c.args.area.now + length c.args.out.now ≤ 65536 = omega (arith, c.if-copies_full.ensures) in
+    let new = λ (t : c.is_ok.result ≡ true). wrote c.resolve-resolved.result.answer (sym c.is_ok.ensures.value ∙ t) in
+    let old = λ (t : c.is_ok.result ≡ false). stayed c.resolve-resolved.result.answer (sym c.is_ok.ensures.value ∙ t) in
+    let done = resolved c.args.cache c.args.snapshot c.args.stamps.now c.args.keys.now c.args.kept.now c.args.area.now c.args.subject.now c.args.out.now small
+    c.resolve-resolved.result _ _ _ _ _ _ _ _ c.if-is_ok.stamps c.if-is_ok.kept c.if-is_ok.out
+    c.load-stamp_numbers.ensures.loaded c.load-kept_words.ensures.loaded c.load-area_words.ensures.loaded c.load-out_words.ensures.loaded c.resolve-resolved.ensures in
+    let told : bytes_answer c.map_err.result ≡ resolve_answer c.resolve-resolved.result.answer = search rules in
+    rw told
+    (elim c.if-is_ok.branch [
+      | then-is_ok w ↦ done (w.stamps-is ∙ w.store.ensures ∙ new w.if-is_ok.true _ _) (w.kept-is ∙ w.store-then-is_ok.ensures ∙ new w.if-is_ok.true _ _) (w.out-is ∙ w.store-then-is_ok-2.ensures ∙ new w.if-is_ok.true _ _)
+      | else-is_ok w ↦ done (w.stamps-is ∙ old w.if-is_ok.false _ _) (w.kept-is ∙ old w.if-is_ok.false _ _) (w.out-is ∙ old w.if-is_ok.false _ _)
+    ])

@@ -1,14 +1,21 @@
-use Rattle.std.proofs.Common.{arith, rules}
-use Rattle.subject_rules.proofs.Chars.{count_dot, count_other, count-end}
+use Rattle.std.proofs.Common.{◌≡◌, ◌==◌, ℕ, ◌+◌, cond, Bool, true, false, eqb, List, [], ◌∷◌, length, count_by, refl, ap, ◌∙◌, arith, take_all}
+use Rattle.std.proofs.lemmas.List.Sums.{sum_by-cons}
+use Rattle.subject_rules.specs.Text.{cut_at, tokens}
+use Rattle.subject_rules.proofs.Tokens.{tokens_cons}
 use Rattle.subject.proofs.depth.Goals as goal
-use Rattle.subject.proofs.depth.Goals.{then-text-i-eq46, else-text-i-eq46}
 
-pub loop-i-preserved : goal.loop-i-preserved
-loop-i-preserved c =
-    elim c.if-text-i-eq46.branch [
-      | then-text-i-eq46 w ↦ (omega arith, omega arith, omega (arith, count_dot c.args.text.now c.loop-i.i (search rules) w.if-text-i-eq46.true))
-      | else-text-i-eq46 w ↦ (omega arith, omega arith, omega (arith, count_other c.args.text.now c.loop-i.i (search rules) w.if-text-i-eq46.false))
-    ]
+-- one more than it has dots
+tokens_counted : (bs : List ℕ) → length (tokens bs) ≡ 1 + count_by (λ b. b == 0x2e) bs
+tokens_counted [] = refl
+tokens_counted (b ∷ bs) = go (eqb b 0x2e) (tokens_counted bs) ∙ omega (arith, sum_by-cons (λ b. cond (b == 0x2e) 1 0) b bs)
+  where
+    go : (dot : Bool) → length (tokens bs) ≡ 1 + count_by (λ b. b == 0x2e) bs
+        → length (cut_at dot b (tokens bs)) ≡ 1 + (cond dot 1 0 + count_by (λ b. b == 0x2e) bs)
+    go true e = omega (arith, e)
+    go false e = tokens_cons (λ ts. length (cut_at false b ts) ≡ length ts) (λ t ts. refl) bs ∙ omega (arith, e)
 
 pub returns : goal.returns
-returns c = omega (arith, count-end c.args.text.now c.loop-i.i (search rules))
+returns c =
+    let text = c.args.text.now in
+    let whole = ap (count_by (λ b. b == 0x2e)) (take_all c.loop-b.b-index text (omega arith)) in
+    omega (arith, tokens_counted text, whole)

@@ -1,12 +1,11 @@
--- `subject::past_token` meets its contract. Assumes nothing.
 use Rattle.std.proofs.Common.{refl}
 use Rattle.subject.specs.Reading.{past}
 use Rattle.subject.proofs.past_token.Goals as goal
 
-pub returns-in-Part : goal.returns-in-Part
+pub returns-in-Some : goal.returns-in-Some
 unfolding past
-returns-in-Part c = rw c.in-Part.is refl
+returns-in-Some c = rw c.in-Some.is refl
 
-pub returns-in-End : goal.returns-in-End
+pub returns-in-None : goal.returns-in-None
 unfolding past
-returns-in-End c = rw c.in-End.is refl
+returns-in-None c = rw c.in-None.is refl

@@ -1,14 +1,14 @@
-use Rattle.std.proofs.Common.{sym, refl, ◌∙◌, rules}
-use Rattle.subject_rules.specs.Fnv.{fnv}
-use Rattle.subject.proofs.Products.{hash_on, hash_end}
+use Rattle.std.proofs.Common.{◌≡◌, ℕ, ◌*◌, ◌%◌, ◌^◌, List, [], ◌∷◌, fold, bit_xor, refl, ◌∙◌, rules}
+use Rattle.subject_rules.specs.Fnv.{fnv, fnv_from}
 use Rattle.subject.proofs.token_hash.Goals as goal
 
-pub loop-i-init : goal.loop-i-init
-unfolding fnv
-loop-i-init c = (search rules, refl)
-
-pub loop-i-preserved : goal.loop-i-preserved
-loop-i-preserved c = (search rules, hash_on c.args.token.now c.loop-i.h c.mix-h.result c.loop-i.i (search rules) c.mix-h.ensures ∙ c.loop-i.invariant.1)
+hashed : (h : ℕ) (bs : List ℕ) → fold (λ h b. bit_xor h b * 0x100000001b3 % 2 ^ 64) h bs ≡ fnv_from h bs
+unfolding fnv_from
+hashed h [] = refl
+hashed h (b ∷ bs) = hashed (bit_xor h b * 0x100000001b3 % 2 ^ 64) bs
 
 pub returns : goal.returns
-returns c = sym (hash_end c.args.token.now c.loop-i.h c.loop-i.i (search rules)) ∙ c.loop-i.invariant.1
+unfolding fnv
+returns c =
+    let e : c.fold.result ≡ fold (λ h b. bit_xor h b * 0x100000001b3 % 2 ^ 64) 0xcbf29ce484222325 c.args.token.now = search rules in
+    e ∙ hashed 0xcbf29ce484222325 c.args.token.now

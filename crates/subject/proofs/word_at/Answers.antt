@@ -1,19 +1,16 @@
--- `subject::word_at` meets its contract. Assumes nothing.
-use Rattle.std.proofs.Common.{◌≡◌, ◌+◌, get_or, ap, ◌∙◌, arith}
+use Rattle.std.proofs.Common.{◌++◌, drop, length, replicate, w64, ap, ◌∙◌}
+use Rattle.std.specs.Int.{from_le_bytes}
+use Rattle.subject.proofs.Positions.{rest_is}
+use Rattle.subject.proofs.Spelled.{word_whole, word_padded}
 use Rattle.subject.proofs.word_at.Goals as goal
+
+pub returns-in-Some-first_chunk : goal.returns-in-Some-first_chunk
+returns-in-Some-first_chunk c =
+    let rest = c.in-Some.rest.now in
+    word_whole c.args.s.now rest c.args.at _ (rest_is c.args.s.now rest c.args.at c.in-Some.ensures.lookup.0.2) c.in-Some-first_chunk.word.now c.in-Some-first_chunk.ensures.cases.same c.from_le_bytes.ensures
 
 pub returns : goal.returns
 returns c =
-    let here : c.args.at + 0 ≡ c.args.at = omega arith in
-    let first = c.byte_or_none.ensures ∙ ap (λ n. get_or c.args.s.now n 0) here in
-    c.eight.ensures
-    ∙ rw (
-      first,
-      c.byte_or_none-2.ensures,
-      c.byte_or_none-3.ensures,
-      c.byte_or_none-4.ensures,
-      c.byte_or_none-5.ensures,
-      c.byte_or_none-6.ensures,
-      c.byte_or_none-7.ensures,
-      c.byte_or_none-8.ensures,
-    )
+    let rest = c.in-Some.rest.now in
+    word_padded c.args.s.now rest c.args.at _ (rest_is c.args.s.now rest c.args.at c.in-Some.ensures.lookup.0.2)
+    (c.from_le_bytes-2.ensures ∙ ap (λ l. from_le_bytes w64 (l ++ drop (length rest) (replicate 8 0))) c.copy_from_slice.ensures.after)

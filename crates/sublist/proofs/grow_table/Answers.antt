@@ -1,25 +1,20 @@
--- `sublist::grow_table` meets its contract. Assumes nothing.
-use Rattle.std.proofs.Common.{◌∙◌}
-use Rattle.sublist_entries.specs.Numbers.{unflat}
-use Rattle.sublist.proofs.Stages.{rooted-at, rooted_full, rooted-broken, grow_room, grow_short}
+use Rattle.std.proofs.Common.{◌∙◌, arith}
+use Rattle.std.proofs.lemmas.Result.{err_from_is_err_and}
+use Rattle.sublist.proofs.Stages.{rooted-at, rooted-not, grow_room, grow_short}
 use Rattle.sublist.proofs.grow_table.Goals as goal
 
+pub returns-in_err-plant-clause-all : goal.returns-in_err-plant-clause-all
+returns-in_err-plant-clause-all g c =
+    let p = err_from_is_err_and c.from_residual.result c.from_residual.ensures.1 in
+    let root = rooted-not _ _ _ c.plant.ensures _ c.in_err-plant.was in
+    rw (p.1, root.1) (grow_short _ _ _ root.0)
+
 pub insert_entries-requires : goal.insert_entries-requires
-insert_entries-requires c =
-    let root = rooted-at _ _ c.plant.new.node_words c.plant.ensures _ _ c.in-At.is in
-    (c.requires.0, c.requires.1, rw c.plant.auto.node_words root.0, c.requires.2)
+insert_entries-requires g c =
+    let root = rooted-at _ _ _ c.plant.ensures _ c.in_ok-plant.was in
+    omega arith
 
-pub returns-in-At : goal.returns-in-At
-returns-in-At c =
-    let root = rooted-at c.args.node_words.now _ c.plant.new.node_words c.plant.ensures _ _ c.in-At.is in (
-      c.insert_entries.ensures.0 ∙ rw root.1 (grow_room (unflat c.args.count c.args.words.now) c.args.store.now c.args.node_words.now root.0),
-      rw c.plant.auto.node_words at c.insert_entries.ensures.1,
-    )
-
-pub returns-in-Full : goal.returns-in-Full
-returns-in-Full c =
-    let root = rooted_full c.args.node_words.now _ c.plant.new.node_words c.plant.ensures c.in-Full.is in
-    (rw root.1 (grow_short (unflat c.args.count c.args.words.now) c.args.store.now c.args.node_words.now root.0), tt)
-
-pub returns-in-Broken : goal.returns-in-Broken
-returns-in-Broken c = absurd (rooted-broken _ _ c.plant.new.node_words c.plant.ensures c.in-Broken.is)
+pub returns-clause-all : goal.returns-clause-all
+returns-clause-all g c =
+    let root = rooted-at _ _ _ c.plant.ensures _ c.in_ok-plant.was in
+    c.insert_entries.ensures.lines ∙ rw (root.1) (grow_room _ _ _ root.0)

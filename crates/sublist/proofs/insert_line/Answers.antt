@@ -1,15 +1,11 @@
--- `sublist::insert_line` meets its contract. Assumes nothing.
-use Rattle.std.proofs.Common.{arith}
+use Rattle.std.proofs.lemmas.Result.{err_from_is_err_and}
 use Rattle.sublist.proofs.Lines.{line-ends, line-stops}
 use Rattle.sublist.proofs.insert_line.Goals as goal
 
-pub count_end-requires : goal.count_end-requires
-count_end-requires c =
-    let fits = rw c.in-At.is at c.insert_pattern.ensures.1 in
-    omega arith
+pub returns-in_err-ended-clause-line : goal.returns-in_err-ended-clause-line
+returns-in_err-ended-clause-line c =
+    let p = err_from_is_err_and c.from_residual.result c.from_residual.ensures.1 in
+    rw (p.1) (line-stops _ _ _ _ c.in_err-ended.ensures.run)
 
-pub returns-in-At : goal.returns-in-At
-returns-in-At c = (rw (c.count_end.ensures, c.wide.ensures) (line-ends _ _ _ _ c.insert_pattern.new.node_words _ _ (rw c.in-At.is at c.insert_pattern.ensures.0)), rw c.in-At.is at c.insert_pattern.ensures.1)
-
-pub returns-in-Full : goal.returns-in-Full
-returns-in-Full c = (line-stops _ _ _ c.insert_pattern.new.node_words (rw c.in-Full.is at c.insert_pattern.ensures.0), tt)
+pub returns-clause-line : goal.returns-clause-line
+returns-clause-line c = rw c.count_end.ensures (line-ends _ _ _ _ _ _ _ c.in_ok-ended.ensures.run)

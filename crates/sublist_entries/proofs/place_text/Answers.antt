@@ -1,18 +1,25 @@
 -- `sublist_entries::place_text` meets its contract.
-use mathlib.Core.Path.{refl}
-use lib.ListN.{length}
-use borrow.Author.Rules.{rules}
-use Rattle.sublist_entries.proofs.Deciding.{says_all_used, says_no_place, says-text_full, says_done, full_entries, full_text, accepted}
+use Rattle.std.proofs.Common.{sym, arith}
+use Rattle.std.proofs.lemmas.Result.{err_from_is_err_and}
+use Rattle.subject_rules.proofs.Depths.{passed}
+use Rattle.sublist_entries.proofs.Deciding.{says-invalid, says_full, says-text_full, says_done}
 use Rattle.sublist_entries.proofs.place_text.Goals as goal
 
-pub returns-then-list-ge-MAX_ENTRIES : goal.returns-then-list-ge-MAX_ENTRIES
-returns-then-list-ge-MAX_ENTRIES c = full_entries c.args.list c.args.store.now c.args.text.now c.args.target _ _ c.turn_down.ensures (says_all_used c.args.list c.args.places (length c.args.store.now) (length c.args.text.now) (search rules))
+pub returns-in_err-parse-clause-says : goal.returns-in_err-parse-clause-says
+returns-in_err-parse-clause-says c =
+    let p = err_from_is_err_and c.from_residual.result c.from_residual.ensures.1 in
+    rw (p.1, p.2) (says-invalid _ _ _ _ _ c.in_err-parse.ensures)
 
-pub returns-then-places-list : goal.returns-then-places-list
-returns-then-places-list c = full_entries c.args.list c.args.store.now c.args.text.now c.args.target _ _ c.turn_down-then-places-list.ensures (says_no_place c.args.list c.args.places (length c.args.store.now) (length c.args.text.now) (search rules) (search rules))
+pub returns-then-min-list-clause-says : goal.returns-then-min-list-clause-says
+returns-then-min-list-clause-says c = says_full _ _ _ _ _ c.in_ok-parse.ensures (omega arith)
 
-pub returns-then-bytes_left-text : goal.returns-then-bytes_left-text
-returns-then-bytes_left-text c = full_text c.args.list c.args.store.now c.args.text.now c.args.target _ _ c.turn_down-then-bytes_left-text.ensures (says-text_full c.args.list c.args.places (length c.args.store.now) (length c.args.text.now) (search rules) (search rules) (search rules))
+pub returns-then-saturating_sub-pattern-clause-says : goal.returns-then-saturating_sub-pattern-clause-says
+returns-then-saturating_sub-pattern-clause-says c = says-text_full _ _ _ _ _ c.in_ok-parse.ensures (omega arith) (omega arith)
 
-pub returns : goal.returns
-returns c = accepted c.args.list c.args.store.now c.args.text.now c.args.target _ _ _ _ refl (says_done c.args.list c.args.places (length c.args.store.now) (length c.args.text.now) (search rules) (search rules) (search rules)) c.paste.ensures
+pub slice_bounds-copy_from_slice-end : goal.slice_bounds-copy_from_slice-end
+slice_bounds-copy_from_slice-end c =
+    let some = (passed _ _ _ (sym c.in_ok-parse.ensures)).filled in
+    omega (arith, some)
+
+pub returns-clause-says : goal.returns-clause-says
+returns-clause-says c = says_done _ _ _ _ _ c.in_ok-parse.ensures (omega arith) (omega arith)

@@ -1,21 +1,9 @@
-use Prim.Native.Nat.{◌<◌}
-use native.Mathlib.Omega.{arith}
-use mathlib.Core.Path.{sym, ◌∙◌, ◌≡◌}
-use lib.ListN.{length}
-use borrow.Author.Rules.{rules}
-use Rattle.sublist_walk_rules.proofs.Parts.{among_here, among_other}
+-- `sublist_walk::stands` meets its contract. Assumes nothing.
+use Rattle.std.proofs.Common.{arith, take_all, ◌∙◌}
+use Rattle.sublist_walk.proofs.Pushes.{among_any}
 use Rattle.sublist_walk.proofs.stands.Goals as goal
-use Rattle.sublist_walk.proofs.stands.Goals.{then-front-i, else-front-i}
-
-pub loop-i-preserved : goal.loop-i-preserved
-loop-i-preserved c =
-    let h : c.loop-i.i < length c.args.front.now = omega arith in
-    elim c.if-front-i.branch [
-      | then-front-i w ↦ (among_here c.args.front.now c.loop-i.i c.args.id h w.if-front-i.true ∙ sym w.seen-is, search rules)
-      | else-front-i w ↦ (among_other c.args.front.now c.loop-i.i c.args.id h w.if-front-i.false ∙ c.loop-i.invariant.0 ∙ sym w.seen-is, search rules)
-    ]
 
 pub returns : goal.returns
 returns c =
-    let e : c.args.n ≡ c.loop-i.i = omega arith in
-    rw e (sym c.loop-i.invariant.0)
+    let whole = take_all c.loop-node.node-index c.args.front.now (omega arith) in
+    (rw whole at c.loop-node.invariant) ∙ among_any c.args.id c.args.front.now

@@ -1,12 +1,7 @@
--- `sublist_walk::stands` meets its contract. The loop's invariant: `seen` says whether the node stands among the first `i`. Assumes nothing.
-use Prim.Native.Nat.{◌-◌, ◌≤◌}
-use mathlib.Core.Path.{◌≡◌}
-use lib.ListN.{take}
-use Rattle.sublist_walk_rules.specs.Walk.{among}
+-- The loop's invariant: whether the node stands among those read.
+use Rattle.std.proofs.Common.{◌≡◌, eqb, take}
+use Rattle.std.specs.List.{list_any}
 use Rattle.sublist_walk.proofs.stands.Given as goal
 
-abbrev pub invariant-loop-i : goal.invariant-loop-i
-invariant-loop-i l = (among l.id (take l.i l.front) ≡ l.seen) × (l.i ≤ l.n)
-
-abbrev pub decreases-loop-i : goal.decreases-loop-i
-decreases-loop-i l = l.n - l.i
+abbrev pub invariant-loop-node : goal.invariant-loop-node
+invariant-loop-node l = l.seen ≡ list_any (λ y. eqb y l.id) (take l.node-index l.front)

@@ -1,23 +1,24 @@
 -- `sublist_walk::visit` meets its contract. Assumes nothing.
-use native.Mathlib.Omega.{arith}
-use Rattle.sublist_walk.specs.Told.{fronted}
-use Rattle.sublist_walk.proofs.Visits.{visit-outside, visit-failed, visit_on}
-use Rattle.sublist_walk.proofs.Levels.{upto, lists_upto, lists_damaged, fronted-upto, fronted-failed}
+use Rattle.std.proofs.lemmas.Result.{err_from_is_err_and}
+use Rattle.sublist_walk.proofs.Visits.{visit-outside, visit_first, visit_second, visit_on}
 use Rattle.sublist_walk.proofs.visit.Goals as goal
 
-pub returns-in-Damaged : goal.returns-in-Damaged
-returns-in-Damaged c = visit-outside _ c.args.node_words.now c.args.nodes c.args.targets c.args.target_words.now c.args.hash _ c.args.node (lists_damaged c.collect.result _ _ c.args.at 1 _ c.in-Damaged.is c.collect.ensures)
+pub returns-in_err-count : goal.returns-in_err-count
+returns-in_err-count g c =
+    let p = err_from_is_err_and c.from_residual.result c.from_residual.ensures.1 in
+    rw (p.1, p.2) (visit-outside _ _ _ _ _ _ _ _ _ c.in_err-count.ensures)
 
-pub returns-in-Failed : goal.returns-in-Failed
-returns-in-Failed c =
-    let w = lists_upto c.collect.result _ _ _ c.args.at 1 _ c.in-Upto.is c.collect.ensures in
-    visit-failed _ c.args.node_words.now c.args.nodes c.args.targets c.args.target_words.now c.args.hash _ c.args.node
-    (fronted c.push_children.result c.push_children.new.to) c.push_children.ensures.0 c.args.at _ _ _ w _ (fronted-failed c.push_children.result _ _ c.in-Failed.is)
+pub returns-in_err-push : goal.returns-in_err-push
+returns-in_err-push g c =
+    let p = err_from_is_err_and c.from_residual-in_err-push.result c.from_residual-in_err-push.ensures.1 in
+    rw (p.1, p.2) (visit_first _ _ _ _ _ _ _ _ _ _ c.child-literal.ensures c.child-star.ensures _ _ _ c.in_ok-count.ensures _ c.in_err-push.ensures)
 
-pub returns-in-Upto-push_children : goal.returns-in-Upto-push_children
-returns-in-Upto-push_children c =
-    let w = lists_upto c.collect.result _ _ _ c.args.at 1 _ c.in-Upto.is c.collect.ensures in (
-      omega (arith, upto c.push_children.result c.in-Upto-push_children.front _ c.in-Upto-push_children.is c.push_children.ensures.1, c.push_children.auto.to),
-      visit_on _ c.args.node_words.now c.args.nodes c.args.targets c.args.target_words.now c.args.hash _ c.args.node
-          (fronted c.push_children.result c.push_children.new.to) c.push_children.ensures.0 c.args.at _ _ _ w _ (fronted-upto c.push_children.result _ _ c.in-Upto-push_children.is),
-    )
+pub returns-in_err-push-2 : goal.returns-in_err-push-2
+returns-in_err-push-2 g c =
+    let p = err_from_is_err_and c.from_residual-in_err-push-2.result c.from_residual-in_err-push-2.ensures.1 in
+    rw (p.1, p.2)
+    (visit_second _ _ _ _ _ _ _ _ _ _ c.child-literal.ensures c.child-star.ensures _ _ _ c.in_ok-count.ensures _ c.in_ok-push.ensures _ c.in_err-push-2.ensures)
+
+pub returns : goal.returns
+returns g c =
+    visit_on _ _ _ _ _ _ _ _ _ _ c.child-literal.ensures c.child-star.ensures _ _ _ c.in_ok-count.ensures _ c.in_ok-push.ensures _ c.in_ok-push-2.ensures

@@ -1,96 +1,48 @@
-use Prim.Native.Nat.{◌-◌, ◌/◌, ◌≤◌}
-use native.Mathlib.Omega.{arith}
-use mathlib.Core.Path.{◌≡◌, refl, ◌∙◌, ap}
-use mathlib.Core.Logic.{inl}
-use lib.Seq.{take-take}
-use lib.ListN.{length, drop, length-set}
-use borrow.Author.Rules.{rules}
-use Rattle.sublist_walk_rules.specs.Walk.{part}
-use Rattle.sublist_walk.proofs.Walks.{token_bounds, hashes_next, hashes_end, at-root, stops, ends_by, goes_wrong, goes_on}
-use Rattle.sublist_walk.proofs.Lending.{turn_next, turn_same, half_taken}
-use Rattle.sublist_walk.proofs.Levels.{part_length, reaches_on, reaches_failed}
+-- `sublist_walk::walk` meets its contract. Assumes nothing.
+use Rattle.std.proofs.Common.{◌≡◌, map, sym, ap, ◌∙◌}
+use borrow.Author.Tests.{eqb-true}
+use Rattle.std.proofs.lemmas.List.{nil_from_length}
+use Rattle.std.proofs.lemmas.Result.{err_from_is_err_and}
+use Rattle.subject.specs.Reading.{tokens_from}
+use Rattle.subject_rules.specs.Text.{tokens}
+use Rattle.subject_rules.specs.Fnv.{fnv}
+use Rattle.sublist_walk.proofs.Walks.{hashes-next, at-root, stops, ends-failed, ends_found, goes_wrong, goes_on}
 use Rattle.sublist_walk.proofs.walk.Goals as goal
 
-pub loop-n-init : goal.loop-n-init
-loop-n-init c =
-    let limit = length c.args.both.now / 2 in (
-      at-root limit c.args.node_words.now c.args.nodes c.args.targets c.args.target_words.now c.args.subject.now c.args.both.now c.args.out.now (omega arith),
-      inl refl,
-      search rules,
-      omega arith,
-      simp length-set,
-      refl,
-      refl,
-      search rules,
-    )
+pub loop-token-init : goal.loop-token-init
+loop-token-init g c =
+    let left : tokens_from c.into_iter-token-iterator.result.text.now c.into_iter-token-iterator.result.at ≡ tokens c.args.subject.now =
+    rw c.into_iter-token-iterator.ensures.into_iter_gives c.new-token-items.ensures.whole in
+    rw (left, c.restart.ensures) (at-root _ _ _ _ _ c.args.subject.now c.args.out.now c.requires)
 
-pub collect_exact-list-requires : goal.collect_exact-list-requires
-collect_exact-list-requires c =
-    let limit = length c.args.both.now / 2 in
-    (omega (arith, part_length c.loop-n.both c.loop-n.from (length c.loop-n.both - c.loop-n.from) (omega arith)), omega arith, c.requires.2, omega arith)
+pub returns-in_err-count : goal.returns-in_err-count
+returns-in_err-count g c =
+    let p = err_from_is_err_and c.from_residual.result c.from_residual.ensures.1 in
+    let some = hashes-next _ _ _ _ c.in-Some.ensures.steps c.token_hash-hash.ensures in
+    rw (p.1, p.2) (goes_wrong _ _ _ _ _ _ _ _ _ _ _ _ c.loop-token.invariant _ _ some _ (rw c.nodes.ensures.nodes at c.in_err-count.ensures))
 
-pub shape_of-both-in_default : goal.shape_of-both-in_default
-shape_of-both-in_default c = c.loop-n.invariant.5 ∙ length-set c.args.both.now 0 0
+pub returns-then-is_empty : goal.returns-then-is_empty
+returns-then-is_empty g c =
+    let some = hashes-next _ _ _ _ c.in-Some.ensures.steps c.token_hash-hash.ensures in
+    let v = rw c.nodes.ensures.nodes at c.in_ok-count.ensures in
+    let u = goes_on _ _ _ _ _ _ _ _ _ _ _ _ c.loop-token.invariant _ _ some _ _ _ _ _ c.min-listed.ensures v (rw c.nodes-in-loop-token.ensures.nodes at c.max-peak.ensures) in
+    let none = eqb-true _ _ (sym (rw c.nodes-in-loop-token-2.ensures.nodes at c.is_empty.ensures) ∙ c.if-is_empty.true) in
+    stops _ _ _ _ _ _ _ _ _ _ _ _ u (nil_from_length c.visit_front.new.to none)
 
-pub returns-in_default : goal.returns-in_default
-returns-in_default c =
-    let limit = length c.args.both.now / 2 in
-    let h = hashes_end c.args.subject.now c.loop-n.at c.token_at.result c.token_at.ensures c.in_default.is in
-    let q = take-take c.loop-n.n (length c.loop-n.both - c.loop-n.from) (drop c.loop-n.from c.loop-n.both) (omega arith) in
-    ends_by limit c.args.node_words.now c.args.nodes c.args.targets c.args.target_words.now _ _ c.loop-n.peak c.loop-n.size c.loop-n.at _ _ _ c.loop-n.invariant.0 h
-    c.collect_exact-list.result c.loop-n.n _ (rw q at c.collect_exact-list.ensures) c.finish.result c.finish.ensures
+pub loop-token-preserved : goal.loop-token-preserved
+loop-token-preserved g c =
+    let some = hashes-next _ _ _ _ c.in-Some.ensures.steps c.token_hash-hash.ensures in
+    let v = rw c.nodes.ensures.nodes at c.in_ok-count.ensures in
+    let u = goes_on _ _ _ _ _ _ _ _ _ _ _ _ c.loop-token.invariant _ _ some _ _ _ _ _ c.min-listed.ensures v (rw c.nodes-in-loop-token.ensures.nodes at c.max-peak.ensures) in
+    rw c.swap.ensures.x_after u
 
-pub slice_bounds-token_hash-count : goal.slice_bounds-token_hash-count
-slice_bounds-token_hash-count c = omega (arith, token_bounds _ _ c.token_at.result c.token_at.ensures _ _ _ c.in-Part.is)
-
-pub slice_bounds-token_hash-start : goal.slice_bounds-token_hash-start
-slice_bounds-token_hash-start c = omega (arith, token_bounds _ _ c.token_at.result c.token_at.ensures _ _ _ c.in-Part.is)
-
-pub slice_bounds-token_hash-end : goal.slice_bounds-token_hash-end
-slice_bounds-token_hash-end c = omega (arith, token_bounds _ _ c.token_at.result c.token_at.ensures _ _ _ c.in-Part.is)
-
-pub visit_front-requires : goal.visit_front-requires
-visit_front-requires c =
-    let limit = length c.args.both.now / 2 in
-    (turn_same c.loop-n.from _ limit c.loop-n.invariant.4 c.loop-n.invariant.1, omega arith, omega arith, c.requires.2, omega arith)
-
-pub shape_of-both-in-Failed : goal.shape_of-both-in-Failed
-shape_of-both-in-Failed c = c.visit_front.auto.both ∙ c.loop-n.invariant.5 ∙ length-set c.args.both.now 0 0
-
-pub returns-in-Failed : goal.returns-in-Failed
-returns-in-Failed c =
-    let limit = length c.args.both.now / 2 in
-    let h = hashes_next c.args.subject.now c.loop-n.at c.token_at.result c.token_at.ensures _ _ _ c.in-Part.is c.token_hash-hash.result c.token_hash-hash.ensures in
-    goes_wrong limit c.args.node_words.now c.args.nodes c.args.targets c.args.target_words.now _ _ c.loop-n.peak c.loop-n.size c.loop-n.at _ _ _ c.loop-n.invariant.0 _ _ h _ c.loop-n.invariant.4 _
-    (reaches_failed c.visit_front.result (part c.visit_front.new.both (length c.loop-n.both / 2 - c.loop-n.from) (length c.loop-n.both / 2)) _ c.visit_front.new.out c.loop-n.size c.loop-n.n _ c.visit_front.ensures _ c.in-Failed.is)
-
-pub loop-n-smaller : goal.loop-n-smaller
-loop-n-smaller c = omega (arith, token_bounds _ _ c.token_at.result c.token_at.ensures _ _ _ c.in-Part.is)
-
-pub loop-n-preserved : goal.loop-n-preserved
-loop-n-preserved c =
-    let limit = length c.args.both.now / 2 in
-    let h = hashes_next c.args.subject.now c.loop-n.at c.token_at.result c.token_at.ensures _ _ _ c.in-Part.is c.token_hash-hash.result c.token_hash-hash.ensures in
-    let d = token_bounds c.args.subject.now c.loop-n.at c.token_at.result c.token_at.ensures _ _ _ c.in-Part.is in
-    let w = reaches_on c.visit_front.result (part c.visit_front.new.both (length c.loop-n.both / 2 - c.loop-n.from) (length c.loop-n.both / 2)) _ c.visit_front.new.out c.loop-n.size c.loop-n.n _ c.visit_front.ensures _ _ c.in-On.is in
-    let q : c.in-On.front ≤ limit = omega (arith, w.0, part_length c.visit_front.new.both (length c.loop-n.both / 2 - c.loop-n.from) (length c.loop-n.both / 2) (omega (arith, c.visit_front.auto.both, c.loop-n.invariant.4))) in (
-      goes_on limit c.args.node_words.now c.args.nodes c.args.targets c.args.target_words.now _ _ c.loop-n.peak c.loop-n.size c.loop-n.at _ _ _ c.loop-n.invariant.0 _ _ h _ c.loop-n.invariant.4
-          _ (part c.visit_front.new.both (limit - c.loop-n.from) c.in-On.front) (half_taken c.visit_front.new.both _ limit c.loop-n.from c.in-On.front c.loop-n.invariant.4 q) c.larger-peak.result _ _ c.loop-n.n _ w.1
-          (rw (part_length c.visit_front.new.both (limit - c.loop-n.from) c.in-On.front (omega (arith, c.visit_front.auto.both, c.loop-n.invariant.4, q))) c.larger-peak.ensures) (omega arith) d.2,
-      turn_next c.loop-n.from limit c.loop-n.invariant.1,
-      omega arith,
-      q,
-      omega (arith, c.visit_front.auto.both, c.loop-n.invariant.4),
-      c.visit_front.auto.both ∙ c.loop-n.invariant.5,
-      c.visit_front.auto.out ∙ c.loop-n.invariant.6,
-      d.3,
-    )
-
-pub shape_of-both : goal.shape_of-both
-shape_of-both c = c.loop-n.invariant.5 ∙ length-set c.args.both.now 0 0
+pub returns-in_err-count-2 : goal.returns-in_err-count-2
+returns-in_err-count-2 g c =
+    let p = err_from_is_err_and c.from_residual-in_err-count-2.result c.from_residual-in_err-count-2.ensures.1 in
+    let none = ap (map fnv) c.in-None.ensures.steps.0 in
+    rw (p.1, p.2) (ends-failed _ _ _ _ _ _ _ _ _ _ _ _ c.loop-token.invariant none _ (rw c.nodes-2.ensures.nodes at c.in_err-count-2.ensures))
 
 pub returns : goal.returns
-returns c =
-    let limit = length c.args.both.now / 2 in
-    let z : c.loop-n.n ≡ 0 = omega (arith, c.loop-n-test.false) in
-    stops limit c.args.node_words.now c.args.nodes c.args.targets c.args.target_words.now _ _ c.loop-n.peak c.loop-n.size c.loop-n.at _ _ _ c.loop-n.invariant.0 (ap (part c.loop-n.both c.loop-n.from) z)
+returns g c =
+    let none = ap (map fnv) c.in-None.ensures.steps.0 in
+    ends_found _ _ _ _ _ _ _ _ _ _ _ _ c.loop-token.invariant none _ _ _ _ c.min-listed-2.ensures (rw c.nodes-2.ensures.nodes at c.in_ok-count-2.ensures)

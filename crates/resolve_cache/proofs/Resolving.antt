@@ -1,0 +1,138 @@
+-- What a resolve is, by the tests that it makes in turn: a refusal, a hit or a walk.
+use Rattle.std.proofs.Common.{◌≡◌, ℕ, zero, suc, ◌+◌, ◌*◌, ◌<◌, ◌≤◌, Bool, true, false, eqb, ltb, List, [], ◌∷◌, length, get_or, Some, None, sym, refl, ap, ◌∙◌, subst, arith, ltb-false, le-ltb, lt-ltb}
+use mathlib.Core.Option as stated
+use mathlib.Core.Option.{none, some}
+use borrow.Author.Tests.{eqb-true, eqb-false}
+use Rattle.subject_rules.specs.Choice.{pick, or}
+use Rattle.subject_rules.specs.Answers.{answer}
+use Rattle.subject_rules.specs.Grammar.{grammar}
+use Rattle.sublist_snapshot.specs.declared.Generation.{Generation}
+use Rattle.sublist_snapshot.specs.declared.Snapshot.{Snapshot}
+use Rattle.sublist_snapshot.specs.Snapshot.{stands_in, walk_of}
+use Rattle.resolve_cache_rules.specs.declared.ResolveCache.{ResolveCache}
+use Rattle.resolve_cache_rules.specs.Area.{Area, key_length, target_count, touch}
+use Rattle.resolve_cache_rules.specs.Cache.{short, bad_from, bad, keeps_at, find_from, emptied, adopt, ticked, hit, in_kept}
+use Rattle.resolve_cache_rules.specs.Cache.{Resolved, unchanged, miss, work_by, work, resolve}
+use Rattle.resolve_cache_rules.specs.Ready.{Wide, Ready, Small}
+use Rattle.resolve_cache_rules.proofs.Slots.{or_false, small_from}
+use Rattle.resolve_cache.specs.declared.ResolveError.{ResolveError}
+use Rattle.resolve_cache.specs.Answers.{resolve_refusal}
+use Rattle.resolve_cache.proofs.Refusals.{refusal-number}
+use Rattle.resolve_cache.specs.Deciding.{Absent, FirstOf, walking}
+
+-- 18 does not apply
+module _ (c : ResolveCache) (a : Area) (b : bad c a ≡ false) where
+  parts : (eqb c.capacity 0 ≡ false) × (or (ltb c.capacity c.used) (bad_from c.capacity a.keys 0 c.used) ≡ false)
+  parts = or_false (eqb c.capacity 0) (or (ltb c.capacity c.used) (bad_from c.capacity a.keys 0 c.used)) b
+
+  rest : (ltb c.capacity c.used ≡ false) × (bad_from c.capacity a.keys 0 c.used ≡ false)
+  rest = or_false (ltb c.capacity c.used) (bad_from c.capacity a.keys 0 c.used) parts.1
+
+  pub good_ready : Wide c.capacity a → Ready c a
+  good_ready r = record { any = omega (arith, eqb-false c.capacity 0 parts.0); fits = ltb-false c.capacity c.used rest.0; wide = r }
+
+  pub good_small : (n : ℕ) → n ≤ c.used → Small c.capacity a.keys n
+  good_small n h i k = small_from c.capacity a.keys 0 c.used rest.1 i (omega arith) (omega arith)
+
+-- the cache on a generation uses no more slots, and has the same capacity
+pub adopt-used : (g : Generation) (c : ResolveCache) → ((adopt g c).used ≤ c.used) × ((adopt g c).capacity ≡ c.capacity)
+adopt-used g c = go (eqb c.generation.0 g.0)
+  where
+    go : (b : Bool) → ((pick b c (emptied g c)).used ≤ c.used) × ((pick b c (emptied g c)).capacity ≡ c.capacity)
+    go true = (omega arith, refl)
+    go false = (omega arith, refl)
+
+-- the cache on a generation has room too, and no bad slot
+module _ (g : Generation) (c e : ResolveCache) (a : Area) (on : e ≡ adopt g c) where
+  pub ready_current : Ready c a → Ready e a
+  ready_current r =
+      rw on (record { any = omega (arith, r.any, (adopt-used g c).1); fits = omega (arith, r.fits, (adopt-used g c).0, (adopt-used g c).1); wide = rw (adopt-used g c).1 r.wide })
+
+  pub small_current : bad c a ≡ false → Small e.capacity a.keys e.used
+  small_current b = rw on (rw (adopt-used g c).1 (good_small c a b _ (adopt-used g c).0))
+
+-- the first slot that keeps a subject, by what is known of each
+module _ (c : ℕ) (keys subject : List ℕ) where
+  pub absent-none : (from n : ℕ) → Absent c keys subject from (from + n) → find_from c keys subject from n ≡ none
+  absent-none from zero h = refl
+  absent-none from (suc n) h = rw (h from (omega arith) (omega arith)) (absent-none (suc from) n (λ i k l. h i (omega arith) (omega arith)))
+
+  pub first-some : (from n i : ℕ) → from ≤ i → i < from + n → keeps_at c keys subject i ≡ true → Absent c keys subject from i → find_from c keys subject from n ≡ some i
+  first-some from zero i after before here others = absurd (omega arith)
+  first-some from (suc n) i after before here others = go (eqb from i) refl (first-some (suc from) n i)
+    where
+      go : (b : Bool) → eqb from i ≡ b
+          → (suc from ≤ i → i < suc from + n → keeps_at c keys subject i ≡ true → Absent c keys subject (suc from) i → find_from c keys subject (suc from) n ≡ some i)
+          → pick (keeps_at c keys subject from) (some from) (find_from c keys subject (suc from) n) ≡ some i
+      go true q ih = rw (eqb-true from i q, here)
+      go false q ih =
+          let later : suc from ≤ i = omega (arith, eqb-false from i q) in
+          rw (others from (omega arith) later) (ih later (omega arith) here (λ j k l. others j (omega arith) l))
+
+module _ (c : ResolveCache) (a : Area) (s : Snapshot) (words subject out : List ℕ) where
+  abbrev whole : Resolved
+  whole = resolve c a s words subject out
+
+  -- 1 to 9
+  pub text-refused : (e : ResolveError) → resolve_refusal e ≡ grammar false subject → unchanged c a subject out (resolve_refusal e) ≡ whole
+  unfolding resolve
+  text-refused e g = rw (← g, (refusal-number e).2)
+
+  module _ (n : ℕ) (accepted : answer 0 (n ∷ []) ≡ grammar false subject) where
+    pub refused-short : short c.capacity a ≡ true → unchanged c a subject out (answer 17 []) ≡ whole
+    unfolding resolve
+    refused-short h = rw (← accepted, h)
+
+    module _ (fits : short c.capacity a ≡ false) where
+      pub refused-bad : bad c a ≡ true → unchanged c a subject out (answer 18 []) ≡ whole
+      unfolding resolve
+      refused-bad b = rw (← accepted, fits, b)
+
+      module _ (good : bad c a ≡ false) where
+        pub refused-damaged : stands_in s words ≡ false → unchanged c a subject out (answer 19 []) ≡ whole
+        unfolding resolve
+        refused-damaged d = rw (← accepted, fits, good, d)
+
+        -- e is the cache on the standing table's generation
+        module _ (stands : stands_in s words ≡ true) (e : ResolveCache) (on : e ≡ adopt s.generation c) where
+          full : work c a subject out (adopt s.generation c) (walk_of s words subject) ≡ whole
+          unfolding resolve
+          full = rw (← accepted, fits, good, stands)
+
+          works : (o : stated.Option ℕ) → find_from e.capacity a.keys subject 0 e.used ≡ o → work_by c a subject out o e (walk_of s words subject) ≡ whole
+          works o q =
+              ap (λ x. work_by c a subject out x e (walk_of s words subject)) (sym q)
+              ∙ ap (λ d. work c a subject out d (walk_of s words subject)) on
+              ∙ full
+
+          pub walks : FirstOf e.capacity a.keys subject 0 e.used None → walking c a s words subject out ≡ whole
+          walks absent =
+              rw (← accepted, stands)
+              (subst (λ d. miss c a subject out d (walk_of s words subject) ≡ whole) on
+              (works none (absent-none e.capacity a.keys subject 0 e.used (λ i h k. absent i h (omega arith)))))
+
+          -- a hit at slot i, whose byte of the second list says the number of its targets
+          module _ (i : ℕ) (first : FirstOf e.capacity a.keys subject 0 e.used (Some i)) (small : key_length e.capacity a.keys i ≤ 256) where
+            found : find_from e.capacity a.keys subject 0 e.used ≡ some i
+            found = first-some e.capacity a.keys subject 0 e.used i (omega arith) (omega (arith, first.1)) first.2 first.3
+
+            count-is : get_or a.keys (e.capacity + i) 0 ≡ target_count e.capacity a.keys i
+            count-is = omega (arith, small)
+
+            by : ℕ → Resolved
+            by count =
+                pick (ltb (length out) count) (unchanged c a subject out (answer 21 (count ∷ [])))
+                (record { says = in_kept (16 * i) count; cache = hit e; area = touch a i (ticked e).0; out = out })
+
+            hits : by (get_or a.keys (e.capacity + i) 0) ≡ whole
+            unfolding by
+            hits = ap by count-is ∙ works (some i) found
+
+            pub hit-short : length out < get_or a.keys (e.capacity + i) 0 → unchanged c a subject out (answer 21 (get_or a.keys (e.capacity + i) 0 ∷ [])) ≡ whole
+            unfolding by
+            hit-short h = rw lt-ltb at hits
+
+            pub hit-shown : get_or a.keys (e.capacity + i) 0 ≤ length out
+                → ◌≡◌ {A = Resolved} (record { says = in_kept (16 * i) (get_or a.keys (e.capacity + i) 0); cache = hit e; area = touch a i (ticked e).0; out = out }) whole
+            unfolding by
+            hit-shown h = rw le-ltb at hits

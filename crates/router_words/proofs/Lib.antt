@@ -1,2 +1,0 @@
--- Laws of answers in words, and of what a call answered and left.
-pub mod Answering
