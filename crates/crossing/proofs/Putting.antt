@@ -84,3 +84,6 @@ unfolding progress
 put-followed none rest at out = refl
 put-followed (some t) none at out = onward_none (progress (some (t ∷ [])) at out)
 put-followed (some t) (some ts) at out = put_first t ts at out
+
+-- each way through `put`
+pub ruleset putting = (put-long, put_whole)

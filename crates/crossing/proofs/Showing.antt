@@ -116,3 +116,9 @@ module _ (o : Option (List ℕ)) (out : List ℕ) where
             let put : left ≡ sets (take size out) 0 (s ++ (0x2e ∷ [])) = cc in
             let whole : left ≡ s = put ∙ sets_whole (take size out) s (length-take-le size out h ∙ same) in
             rw (same, le-ltb (length out) (length s) (omega arith), whole)
+
+-- each way through `put_together`
+pub ruleset all_together = (together_none, together_some, together)
+
+-- each way through what is shown
+pub ruleset showing = (shown-none, shown-short, shown_whole)

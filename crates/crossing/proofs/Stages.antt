@@ -1,23 +1,29 @@
--- What each way through `crossing_with` makes of `crossing_with`.
-use Rattle.std.proofs.Common.{◌≡◌, ℕ, true, List, [], Result, Ok, Err, ◌∙◌}
+-- What each way through `crossing_with` makes of `crossing_with`, by what the grammar says of the two patterns.
+use Rattle.std.proofs.Common.{◌≡◌, ℕ, true, List, [], Err, refl}
 use Rattle.subject_rules.specs.Answers.{answer}
 use Rattle.subject_rules.specs.Grammar.{grammar}
-use Rattle.subject_rules.specs.Outputs.{Outcome, outcome}
-use Rattle.subject.specs.Answers.{refusal, parsed}
+use Rattle.subject_rules.specs.Outputs.{Outcome, outcome, if_parsed}
+use Rattle.subject.specs.Answers.{refusal}
 use Rattle.subject.specs.declared.SubjectError.{SubjectError}
 use Rattle.subject.proofs.Refusals.{refused_stands, refused_leaves}
 use Rattle.crossing_rules.specs.Crossing.{shown_for, show_in, crossing_with}
 
-module _ (filler first second out : List ℕ) (p : Result ℕ SubjectError) (a : parsed p ≡ grammar true first) where
-  pub first-refused : (e : SubjectError) → p ≡ Err e → outcome (refusal e) out ≡ crossing_with filler first second out
+leaves : (e : SubjectError) (out : List ℕ) (after : Outcome) → outcome (refusal e) out ≡ if_parsed (refusal e) out after
+leaves e out after = refused_leaves (Err e) e refl (refusal e) (answer 0 []) (refused_stands (Err e) e (answer 0 []) refl) out after
+
+module _ (filler first second out : List ℕ) where
+  pub first-refused : (e : SubjectError) → refusal e ≡ grammar true first → outcome (refusal e) out ≡ crossing_with filler first second out
   unfolding crossing_with
-  first-refused e t = rw (← a) (refused_leaves p e t _ (answer 0 []) (refused_stands p e _ t) out _)
+  first-refused e a = rw (← a) (leaves e out _)
 
-  module _ (n : ℕ) (t : p ≡ Ok n) (q : Result ℕ SubjectError) (b : parsed q ≡ grammar true second) where
-    pub second-refused : (e : SubjectError) → q ≡ Err e → outcome (refusal e) out ≡ crossing_with filler first second out
+  module _ (ns : List ℕ) (a : answer 0 ns ≡ grammar true first) where
+    pub second-refused : (e : SubjectError) → refusal e ≡ grammar true second → outcome (refusal e) out ≡ crossing_with filler first second out
     unfolding crossing_with
-    second-refused e u = rw (← a, t, ← b) (refused_leaves q e u _ (answer 0 []) (refused_stands q e _ u) out _)
+    second-refused e b = rw (← a, ← b) (leaves e out _)
 
-    pub both_parsed : (m : ℕ) → q ≡ Ok m → (x : Outcome) → x ≡ show_in (shown_for filler first second) out → x ≡ crossing_with filler first second out
+    pub both_parsed : (ms : List ℕ) → answer 0 ms ≡ grammar true second → show_in (shown_for filler first second) out ≡ crossing_with filler first second out
     unfolding crossing_with
-    both_parsed m u x s = s ∙ rw (← a, t, ← b, u)
+    both_parsed ms b = rw (← a, ← b)
+
+-- each way
+pub ruleset stages = (first-refused, second-refused, both_parsed)

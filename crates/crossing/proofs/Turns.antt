@@ -30,3 +30,14 @@ module _ (o : Option (List ℕ)) (at : ℕ) (out : List ℕ) (r : std.Option (Un
 pub no_tail : (filler p q : List ℕ) (ps qs : List (List ℕ)) (tail last : Bool) → tail ≡ is_tail p → tail ≡ false → last ≡ is_tail q → last ≡ false
     → common filler (p ∷ ps) (q ∷ qs) ≡ followed (meet filler p q) (common filler ps qs)
 no_tail filler p q ps qs tail last t n u m = rw (← t, n, ← u, m)
+
+-- the same of a token that there is
+module _ (t : List ℕ) (ts : List (List ℕ)) (at : ℕ) (out : List ℕ) (r : std.Option (Unit {0})) (v : Writer) where
+  pub rest-stops : reached_by r v ≡ progress (some (t ∷ [])) at out → r ≡ std.None → progress (some (t ∷ ts)) at out ≡ nowhere
+  rest-stops p h = sym (put-stops (some t) at out r v p (some ts) h)
+
+  pub rest_goes : {u : Unit {0}} → reached_by r v ≡ progress (some (t ∷ [])) at out → r ≡ std.Some u → progress (some (t ∷ ts)) at out ≡ progress (some ts) v.at v.out.now
+  rest_goes p h = sym (put_goes (some t) at out r v p (some ts) h)
+
+-- each way through a turn
+pub ruleset turns = (put_none, rest-stops, rest_goes, put-stops, put_goes, no_tail)

@@ -45,6 +45,7 @@ impl Writer<'_> {
     ghost use Rattle.crossing.specs.Puts.{Puts};
 
     // Bytes, as far as the output goes.
+    #[tactic(auto, using(crate::proofs::Putting::written))]
     fn write(&mut self, bytes: &[u8])
         requires { self.old.at + length bytes.now ≤ 4097 }
         ensures same_output { self.new.out.ghost_name ≡ self.old.out.ghost_name }
@@ -60,6 +61,7 @@ impl Writer<'_> {
     }
 
     // A token and a dot behind it, if a subject may have so many bytes.
+    #[tactic(auto, using(crate::proofs::Putting::putting))]
     fn put(&mut self, token: &[u8]) -> Option<()>
         ensures { Puts (some (token.now ∷ [])) result self.old self.new }
     {
@@ -83,6 +85,7 @@ impl Writer<'_> {
     }
 
     // What two patterns' tokens, neither of them `>`, have in common, and a dot behind it.
+    #[tactic(auto, unfolding(crate::specs::Writing::progress))]
     fn put_common(&mut self, first: &[u8], second: &[u8]) -> Option<()>
         ensures { Puts
             (followed (meet self.old.filler.now first.now second.now) (some []))
@@ -98,6 +101,7 @@ impl Writer<'_> {
     }
 
     // A token of a pattern and those behind it.
+    #[tactic(auto, using(crate::proofs::Turns::turns))]
     fn put_rest(&mut self, token: &[u8], behind: Tokens<'_>) -> Option<()>
         ensures { Puts
             (some (map (plain self.old.filler.now)
@@ -112,6 +116,7 @@ impl Writer<'_> {
     }
 
     // The tokens that two patterns have in common.
+    #[tactic(auto, using(crate::proofs::Turns::turns), unfolding(crate::specs::Writing::progress))]
     fn put_crossing(&mut self, first: &[u8], second: &[u8]) -> Option<()>
         ensures { Puts
             (common self.old.filler.now (tokens first.now) (tokens second.now))
@@ -119,6 +124,7 @@ impl Writer<'_> {
     {
         let mut tokens = subject::new(first);
         let mut others = subject::new(second);
+        // Kept: a `for` would hold the reader itself, and `put_rest` takes what is left of it.
         while let Some(token) = tokens.next() {
             let other = others.next()?;
             if subject::is_tail(token) {
@@ -145,6 +151,7 @@ fn is_wild(token: &[u8]) -> bool
 
 // The length of the subject that two patterns have in common, if there is one. It is put in the output with a dot
 // behind it, as far as the output goes.
+#[tactic(auto, using(crate::proofs::Showing::all_together))]
 fn put_together(first: &[u8], second: &[u8], filler: &[u8], out: &mut [u8]) -> Option<usize>
     ensures { reached result out.new
         ≡ dotted_in (shown_for filler.now first.now second.now) out.old }
@@ -157,6 +164,7 @@ fn put_together(first: &[u8], second: &[u8], filler: &[u8], out: &mut [u8]) -> O
 // The length of a shortest subject that two patterns both match, `filler` in each position that is wild in both; none
 // where there is no such subject. The first is parsed before the second. A refusal, and that there is none, leave the
 // output.
+#[tactic(auto, using(crate::proofs::Stages::stages, crate::proofs::Showing::showing))]
 pub fn crossing_with(
     first: &[u8],
     second: &[u8],
@@ -179,6 +187,7 @@ pub fn crossing_with(
 }
 
 // The same with `x` in those positions.
+#[tactic(auto, unfolding(crossing_rules::specs::Crossing::crossing))]
 pub fn crossing(first: &[u8], second: &[u8], out: &mut [u8]) -> Result<Option<usize>, CrossingError>
     ensures { outcome (crossed result) out.new
         ≡ crossing first.now second.now out.old }

@@ -12,12 +12,314 @@
 // The folder host/compare/src/bin/record has the form: recording.rs that of every record, calls.rs the kinds.
 #![tactic(auto)]
 
-use router_c::{CAnswer, CCache, CMadeSnapshot, CResolved, CSnapshot, CStored};
-use std::io;
+use router_c::{
+    CAnswer, CCache, CMadeSnapshot, CResolved, CSnapshot, CStored, router_build,
+    router_cache_clear, router_cache_new, router_insert, router_match, router_matches,
+    router_parse, router_parse_literal, router_resolve, router_resolve_single_home,
+    router_resolve_single_home_cached, router_single_home, router_snapshot_empty,
+    router_snapshot_match, router_snapshot_new, router_store,
+};
 use std::io::Read;
+use std::{fmt, io};
 
-// ---- The areas that the calls are lent: room for 1,026 entries, for the 2,049 nodes of their table, and for eight
-// slots of each cache.
+// ---- The kinds of records.
+
+#[derive(Clone, Copy, PartialEq, Eq)]
+enum Kind {
+    ParseLiteral = 1,
+    Parse,
+    Matches,
+    SingleHome,
+    NewList,
+    Insert,
+    Build,
+    MatchTable,
+    NewSnapshot,
+    EmptySnapshot,
+    Store,
+    MatchSnapshot,
+    Verdict,
+    NewCache,
+    Clear,
+    Resolve,
+    CachedVerdict,
+}
+
+// In the order of their numbers, which begin at 1.
+const KINDS: [Kind; 17] = [
+    Kind::ParseLiteral,
+    Kind::Parse,
+    Kind::Matches,
+    Kind::SingleHome,
+    Kind::NewList,
+    Kind::Insert,
+    Kind::Build,
+    Kind::MatchTable,
+    Kind::NewSnapshot,
+    Kind::EmptySnapshot,
+    Kind::Store,
+    Kind::MatchSnapshot,
+    Kind::Verdict,
+    Kind::NewCache,
+    Kind::Clear,
+    Kind::Resolve,
+    Kind::CachedVerdict,
+];
+
+// A record's first byte is the number of no kind.
+#[derive(Clone, Copy)]
+struct NoKind(u8);
+
+impl TryFrom<u8> for Kind {
+    type Error = NoKind;
+
+    fn try_from(number: u8) -> Result<Kind, NoKind> {
+        let kind = KINDS.iter().copied().find(|kind| *kind as u8 == number);
+        kind.ok_or(NoKind(number))
+    }
+}
+
+impl fmt::Display for Kind {
+    fn fmt<W: fmt::Write>(&self, f: &mut fmt::Formatter<W>) -> fmt::Result {
+        f.write_str(match self {
+            Kind::ParseLiteral => "parse_literal",
+            Kind::Parse => "parse",
+            Kind::Matches => "matches",
+            Kind::SingleHome => "single_home",
+            Kind::NewList => "new list",
+            Kind::Insert => "insert",
+            Kind::Build => "build",
+            Kind::MatchTable => "match in the table",
+            Kind::NewSnapshot => "new snapshot",
+            Kind::EmptySnapshot => "empty snapshot",
+            Kind::Store => "store",
+            Kind::MatchSnapshot => "match in the snapshot",
+            Kind::Verdict => "resolve_single_home",
+            Kind::NewCache => "new cache",
+            Kind::Clear => "clear",
+            Kind::Resolve => "resolve",
+            Kind::CachedVerdict => "resolve_single_home_cached",
+        })
+    }
+}
+
+// ---- What a record holds, and the recording.
+
+// A number of a record, and its place: the bytes in front of it.
+#[derive(Clone, Copy)]
+struct Field<T> {
+    at: usize,
+    value: T,
+}
+
+// Bytes, and the place of the field that is read next; numbers have their lowest byte first. Every read is total: what
+// lies outside is zeros, and a text that is not all there is empty.
+#[derive(Clone, Copy)]
+struct Fields<'a> {
+    bytes: &'a [u8],
+    at: usize,
+}
+
+impl<'a> Fields<'a> {
+    fn new(bytes: &'a [u8]) -> Fields<'a> {
+        Fields { bytes, at: 0 }
+    }
+
+    // The bytes from the place on.
+    fn rest(&self) -> &'a [u8] {
+        self.bytes.get(self.at..).unwrap_or_default()
+    }
+
+    fn skip(&mut self, count: usize) {
+        self.at = self.at.wrapping_add(count);
+    }
+
+    fn chunk<const N: usize>(&mut self) -> [u8; N] {
+        let mut chunk = [0; N];
+        for (to, from) in chunk.iter_mut().zip(self.rest()) {
+            *to = *from;
+        }
+        self.skip(N);
+        chunk
+    }
+
+    // Kept: tried as one function for every width: the check does not cover a closure that takes an array of N bytes.
+    fn byte(&mut self) -> Field<u8> {
+        let at = self.at;
+        let value = u8::from_le_bytes(self.chunk());
+        Field { at, value }
+    }
+
+    fn short(&mut self) -> Field<u16> {
+        let at = self.at;
+        let value = u16::from_le_bytes(self.chunk());
+        Field { at, value }
+    }
+
+    fn word(&mut self) -> Field<u32> {
+        let at = self.at;
+        let value = u32::from_le_bytes(self.chunk());
+        Field { at, value }
+    }
+
+    fn number(&mut self) -> Field<u64> {
+        let at = self.at;
+        let value = u64::from_le_bytes(self.chunk());
+        Field { at, value }
+    }
+
+    // A text, or a record, behind its length in two bytes.
+    fn text(&mut self) -> &'a [u8] {
+        let length = usize::from(self.short().value);
+        let text = self.rest().get(..length).unwrap_or_default();
+        self.skip(length);
+        text
+    }
+
+    // Words behind their count in two bytes.
+    fn list(&mut self) -> Words<'a> {
+        let count = self.short();
+        let fields = *self;
+        self.skip(usize::from(count.value) * 4);
+        Words { count, fields }
+    }
+
+    // An answer: a number and two values.
+    fn answer(&mut self) -> Recorded {
+        let number = self.byte();
+        let first = self.word();
+        let second = self.word();
+        Recorded {
+            number,
+            first,
+            second,
+        }
+    }
+}
+
+// A list in a record: how many words it is said to have, and where they begin.
+#[derive(Clone, Copy)]
+struct Words<'a> {
+    count: Field<u16>,
+    fields: Fields<'a>,
+}
+
+// The answer that the original gave to a call.
+#[derive(Clone, Copy)]
+struct Recorded {
+    number: Field<u8>,
+    first: Field<u32>,
+    second: Field<u32>,
+}
+
+// It, and what is left of the record: what the call takes, and what else it gave.
+#[derive(Clone, Copy)]
+struct Record<'a> {
+    answer: Recorded,
+    fields: Fields<'a>,
+}
+
+// An answer to a call that is made here.
+fn answer(number: u64, first: u64, second: u64, third: u64) -> CAnswer {
+    CAnswer {
+        number,
+        first,
+        second,
+        third,
+    }
+}
+
+// Kept: the number of the answer that is said for a record of no kind, for which no call is made. No record has it.
+const NO_ANSWER: u64 = 256;
+
+// ---- What is counted: all records, those of each kind at its number, and the differences; and what is said of a
+// difference.
+
+#[derive(Drop)]
+struct Tally<'a, R> {
+    rt: &'a R,
+    records: u64,
+    of_kind: [u64; 18],
+    differences: u64,
+}
+
+impl<'a, R: Print> Tally<'a, R> {
+    fn new(rt: &'a R) -> Tally<'a, R> {
+        Tally {
+            rt,
+            records: 0,
+            of_kind: [0; 18],
+            differences: 0,
+        }
+    }
+
+    fn count(&mut self, kind: Kind) {
+        let count = &mut self.of_kind[kind as usize];
+        *count = count.wrapping_add(1);
+    }
+
+    // Kept: 18 counts as a record more and 19 as a difference, as when all counts stood in one array by these numbers.
+    fn count_no_kind(&mut self, NoKind(number): NoKind) {
+        match number {
+            18 => self.records = self.records.wrapping_add(1),
+            19 => self.differences = self.differences.wrapping_add(1),
+            _ => {}
+        }
+    }
+
+    // Counts and says a difference at a place of the record, unless what came out is what is recorded.
+    fn hold<T>(&mut self, came: u64, field: Field<T>) -> io::Result<()>
+    where
+        u64: From<T>,
+    {
+        let at = field.at;
+        let recorded = u64::from(field.value);
+        if came == recorded {
+            return Ok(());
+        }
+        self.differences = self.differences.wrapping_add(1);
+        println!(self.rt;
+            "record {}, at {at}: {came}, recorded {recorded}",
+            self.records
+        )
+    }
+
+    fn hold_answer(&mut self, came: CAnswer, recorded: Recorded) -> io::Result<()> {
+        self.hold(came.number, recorded.number)?;
+        self.hold(came.first, recorded.first)?;
+        self.hold(came.second, recorded.second)
+    }
+
+    // Holds an answer, and its third value to the generation that stands next.
+    fn hold_stamped(&mut self, came: CAnswer, record: &mut Record<'_>) -> io::Result<()> {
+        self.hold_answer(came, record.answer)?;
+        self.hold(came.third, record.fields.number())
+    }
+
+    // Holds the length of a list, and what the output starts with to as many words as are recorded.
+    fn hold_list(&mut self, length: u64, recorded: Words<'_>, out: &Targets) -> io::Result<()> {
+        let mut words = recorded.fields;
+        self.hold(length, recorded.count)?;
+        for i in 0..recorded.count.value {
+            let target = out.get(usize::from(i)).copied().unwrap_or_default();
+            self.hold(u64::from(target), words.word())?;
+        }
+        Ok(())
+    }
+
+    fn report(&self) -> io::Result<()> {
+        let rt = self.rt;
+        for kind in KINDS {
+            let count = self.of_kind[kind as usize];
+            println!(rt; "{kind} {count}")?;
+        }
+        println!(rt; "records {}", self.records)?;
+        println!(rt; "differences {}", self.differences)
+    }
+}
+
+// ---- What the calls leave for later ones, and the areas that they are lent: room for 1,026 entries, for the 2,049
+// nodes of their table, and for eight slots of each cache. Each call's comment says what the record has for it.
 
 const ENTRIES: usize = 1026;
 
@@ -31,473 +333,130 @@ const AREA_WORDS: usize = NODE_WORDS + ENTRIES;
 
 const SLOTS: usize = 8;
 
+const KEY_BYTES: usize = SLOTS * 260;
+
 // The most targets that a slot keeps.
 const MOST_KEPT: usize = 16;
 
-const SLOT_NUMBERS: usize = SLOTS;
-
-const SLOT_BYTES: usize = SLOTS * 260;
-
-const SLOT_TARGETS: usize = SLOTS * MOST_KEPT;
-
-type Words = [usize; ENTRY_NUMBERS];
-
-type Store = [u8; STORE_BYTES];
-
-type Nodes = [u32; NODE_WORDS];
+const KEPT_WORDS: usize = SLOTS * MOST_KEPT;
 
 // The targets of a table, and the output of a match.
 type Targets = [u32; ENTRIES];
 
-type Area = [u32; AREA_WORDS];
-
-type Stamps = [u64; SLOT_NUMBERS];
-
-type Keys = [u8; SLOT_BYTES];
-
-type Kept = [u32; SLOT_TARGETS];
-
-// ---- Fields of a record, numbers lowest byte first. Every read is total: what lies outside is zeros or an empty part.
-
-fn byte_at(bytes: &[u8], at: usize) -> u8 {
-    if at < bytes.len() {
-        return bytes[at];
-    }
-    0
-}
-
-// The place so many bytes ahead.
-fn ahead(at: usize, by: usize) -> usize {
-    std::num::wrapping_add_usize(at, by)
-}
-
-fn short_of(a: u8, b: u8) -> u16 {
-    (a as u16) + (b as u16) * 256
-}
-
-// Two bytes.
-fn short_at(bytes: &[u8], at: usize) -> u16 {
-    short_of(byte_at(bytes, at), byte_at(bytes, ahead(at, 1)))
-}
-
-fn word_of(low: u16, high: u16) -> u32 {
-    (low as u32) + (high as u32) * 65536
-}
-
-// Four bytes.
-fn word_at(bytes: &[u8], at: usize) -> u32 {
-    word_of(short_at(bytes, at), short_at(bytes, ahead(at, 2)))
-}
-
-fn number_of(low: u32, high: u32) -> u64 {
-    (low as u64) + (high as u64) * 4294967296
-}
-
-// Eight bytes.
-fn number_at(bytes: &[u8], at: usize) -> u64 {
-    number_of(word_at(bytes, at), word_at(bytes, ahead(at, 4)))
-}
-
-// The bytes from a place on.
-fn rest(bytes: &[u8], at: usize) -> &[u8] {
-    if bytes.len() < at {
-        return &bytes[..0];
-    }
-    &bytes[at..]
-}
-
-// The first so many bytes, or none if they are not all there.
-fn first_bytes(bytes: &[u8], count: usize) -> &[u8] {
-    if bytes.len() < count {
-        return &bytes[..0];
-    }
-    let from: usize = 0;
-    &bytes[from..count]
-}
-
-// A text, or a record, behind its length in two bytes.
-fn text_at(bytes: &[u8], at: usize) -> &[u8] {
-    first_bytes(rest(bytes, ahead(at, 2)), short_at(bytes, at) as usize)
-}
-
-// The place behind it.
-fn after_text(bytes: &[u8], at: usize) -> usize {
-    ahead(at, ahead(2, short_at(bytes, at) as usize))
-}
-
-// The bytes that a list takes: a count of two bytes and as many words.
-fn list_size(count: u16) -> usize {
-    (count as usize) * 4 + 2
-}
-
-// What stands behind a list.
-fn after_list(bytes: &[u8], at: usize) -> &[u8] {
-    rest(bytes, ahead(at, list_size(short_at(bytes, at))))
-}
-
-// The first so many words, or none if they are not all there.
-fn first_words(words: &[u32], count: usize) -> &[u32] {
-    if words.len() < count {
-        return &words[..0];
-    }
-    let from: usize = 0;
-    &words[from..count]
-}
-
-// The numbers of the first so many entries, or none if they are not all there.
-fn first_entries(words: &[usize], entries: usize) -> &[usize] {
-    let end = ahead(entries, ahead(entries, entries));
-    if words.len() < end {
-        return &words[..0];
-    }
-    let from: usize = 0;
-    &words[from..end]
-}
-
-// ---- Where a record has what: its kind, then the answer that the original gave, a number and two values.
-
-const KIND: usize = 0;
-
-const NUMBER: usize = 1;
-
-const FIRST: usize = 2;
-
-const SECOND: usize = 6;
-
-// What the call takes, and what else it answered.
-const CALL: usize = 10;
-
-// The same behind a generation.
-const CALL_AND_GENERATION: usize = 18;
-
-// Of a call on a cache: which, and then, as they are afterwards, the subjects kept, the walks and the generation.
-const WHICH: usize = 10;
-
-const SUBJECTS: usize = 11;
-
-const WALKS: usize = 15;
-
-const GENERATION: usize = 23;
-
-const CACHE_CALL: usize = 31;
-
-// A value that a record of its kind does not have.
-const NOWHERE: usize = 0;
-
-// The kinds.
-
-const PARSE_LITERAL: usize = 1;
-
-const PARSE: usize = 2;
-
-const MATCHES: usize = 3;
-
-const SINGLE_HOME: usize = 4;
-
-const NEW_LIST: usize = 5;
-
-const INSERT: usize = 6;
-
-const BUILD: usize = 7;
-
-const MATCH_TABLE: usize = 8;
-
-const NEW_SNAPSHOT: usize = 9;
-
-const EMPTY_SNAPSHOT: usize = 10;
-
-const STORE: usize = 11;
-
-const MATCH_SNAPSHOT: usize = 12;
-
-const VERDICT: usize = 13;
-
-const NEW_CACHE: usize = 14;
-
-const CLEAR: usize = 15;
-
-const RESOLVE: usize = 16;
-
-const CACHED_VERDICT: usize = 17;
-
-// The number of the answer where no call is made, as for a record of another kind: no record has it.
-const NO_ANSWER: u64 = 256;
-
-fn kind_of(record: &[u8]) -> usize {
-    byte_at(record, KIND) as usize
-}
-
-// Where a record has the generation that a call answers, or that of a table.
-fn generation_at(kind: usize, number: u64) -> usize {
-    match kind {
-        BUILD => if number == 0 { CALL } else { NOWHERE },
-        NEW_SNAPSHOT | EMPTY_SNAPSHOT | STORE | MATCH_SNAPSHOT => CALL,
-        _ => NOWHERE,
-    }
-}
-
-// Where a record has the list that a call gives.
-fn list_at(kind: usize) -> usize {
-    match kind {
-        MATCH_TABLE => CALL,
-        MATCH_SNAPSHOT => CALL_AND_GENERATION,
-        RESOLVE => CACHE_CALL,
-        _ => NOWHERE,
-    }
-}
-
-// ---- What the calls leave for later ones.
-
-// Entries and bytes in use, and the counts and the generation of the table that was built last.
-#[derive(Clone, Copy)]
+// The list, and the table that was built last.
+#[derive(Drop)]
 struct List {
-    pub entries: usize,
-    pub used: usize,
-    pub nodes: usize,
-    pub targets: usize,
-    pub generation: u64,
+    entries: usize,
+    used: usize,
+    words: [usize; ENTRY_NUMBERS],
+    store: [u8; STORE_BYTES],
+    node_count: usize,
+    target_count: usize,
+    generation: u64,
+    nodes: [u32; NODE_WORDS],
+    targets: Targets,
 }
 
-// What the last call on a cache gave, the cache's state in it, and the cache's areas.
-#[derive(Clone, Copy)]
+// The snapshot.
+#[derive(Drop)]
+struct Standing {
+    snapshot: CSnapshot,
+    area: [u32; AREA_WORDS],
+}
+
+#[derive(Drop)]
 struct Cache {
-    pub given: CResolved,
-    pub stamps: Stamps,
-    pub keys: Keys,
-    pub kept: Kept,
+    state: CCache,
+    stamps: [u64; SLOTS],
+    keys: [u8; KEY_BYTES],
+    kept: [u32; KEPT_WORDS],
 }
 
-// The answer to the last call, as the original gives it, and what later calls take: the list with its table, the
-// snapshot and the two caches.
-#[derive(Clone, Copy)]
-struct State {
-    pub answer: CAnswer,
-    pub list: List,
-    pub snapshot: CSnapshot,
-    pub one: Cache,
-    pub two: Cache,
-}
-
-fn answer_of(number: u64, first: u64, second: u64, third: u64) -> CAnswer {
-    CAnswer {
-        number,
-        first,
-        second,
-        third,
-    }
-}
-
-fn snapshot_of(nodes: u64, targets: u64, generation: u64, next: u64) -> CSnapshot {
-    CSnapshot {
-        nodes: nodes as usize,
-        targets: targets as usize,
-        generation,
-        next,
-    }
-}
-
-// An answer of a call on a cache, and the cache afterwards.
-fn given_of(number: u64, first: u64, cache: CCache) -> CResolved {
-    CResolved {
-        number,
-        first,
-        second: 0,
-        third: 0,
-        capacity: cache.capacity as u64,
-        used: cache.used as u64,
-        generation: cache.generation,
-        tick: cache.tick,
-        walks: cache.walks,
-    }
-}
-
-fn cache_of(capacity: u64, used: u64, generation: u64, tick: u64, walks: u64) -> CCache {
-    CCache {
-        capacity: capacity as usize,
-        used: used as usize,
-        generation,
-        tick,
-        walks,
-    }
-}
-
-fn fresh_cache() -> Cache {
-    Cache {
-        given: given_of(0, 0, cache_of(0, 0, 0, 0, 0)),
-        stamps: [0u64; SLOT_NUMBERS],
-        keys: [0u8; SLOT_BYTES],
-        kept: [0u32; SLOT_TARGETS],
-    }
-}
-
-// Nothing is made yet.
-fn fresh() -> State {
-    State {
-        answer: answer_of(0, 0, 0, 0),
-        list: List {
-            entries: 0,
-            used: 0,
-            nodes: 0,
-            targets: 0,
-            generation: 0,
-        },
-        snapshot: snapshot_of(0, 0, 0, 0),
-        one: fresh_cache(),
-        two: fresh_cache(),
-    }
-}
-
-fn with_answer(state: State, answer: CAnswer) -> State {
-    let mut next = state;
-    next.answer = answer;
-    next
-}
-
-fn with_list(state: State, list: List, answer: CAnswer) -> State {
-    let mut next = state;
-    next.answer = answer;
-    next.list = list;
-    next
-}
-
-// ---- Calls on texts and on a list of targets. Here and in the next three parts each C call is made in one function,
-// whose comment says what the record holds for it, behind the answer.
-
-// The text.
-
-fn parse_literal(record: &[u8]) -> CAnswer {
-    router_c::router_parse_literal(rest(record, CALL))
-}
-
-// The text.
-fn parse(record: &[u8]) -> CAnswer {
-    router_c::router_parse(rest(record, CALL))
-}
-
-// The pattern, then the subject.
-fn matches(record: &[u8]) -> CAnswer {
-    router_c::router_matches(
-        text_at(record, CALL),
-        rest(record, after_text(record, CALL)),
-    )
-}
-
-// The words of a record from a place on go over the output.
-fn load(record: &[u8], at: usize, out: &mut Targets) {
-    let mut place = at;
-    let mut i = 0;
-    while i < ENTRIES {
-        out[i] = word_at(record, place);
-        place = ahead(place, 4);
-        i += 1;
-    }
-}
-
-// The list.
-fn single_home(record: &[u8], out: &mut Targets) -> CAnswer {
-    load(record, ahead(CALL, 2), out);
-    router_c::router_single_home(first_words(out, short_at(record, CALL) as usize))
-}
-
-// This part comes first: what is no call of its kinds has no answer yet.
-fn on_texts(record: &[u8], state: State, out: &mut Targets) -> State {
-    match kind_of(record) {
-        PARSE_LITERAL => with_answer(state, parse_literal(record)),
-        PARSE => with_answer(state, parse(record)),
-        MATCHES => with_answer(state, matches(record)),
-        SINGLE_HOME => with_answer(state, single_home(record, out)),
-        _ => with_answer(state, answer_of(NO_ANSWER, 0, 0, 0)),
-    }
-}
-
-// ---- Calls on a list of patterns and on its table.
-
-// The target, then the pattern.
-fn insert(record: &[u8], list: List, words: &mut Words, store: &mut Store) -> CAnswer {
-    let target = word_at(record, CALL);
-    let pattern = rest(record, ahead(CALL, 4));
-    router_c::router_insert(list.entries, list.used, words, store, pattern, target)
-}
-
-// The generation.
-fn build(
-    record: &[u8],
-    list: List,
-    words: &Words,
-    store: &Store,
-    nodes: &mut Nodes,
-    targets: &mut Targets,
-) -> CAnswer {
-    let entries = first_entries(words, list.entries);
-    router_c::router_build(entries, store, nodes, targets, number_at(record, CALL))
-}
-
-// The original reports no peak.
-fn without_peak(a: CAnswer) -> CAnswer {
+// An answer without its second value: the original reports no peak and no worst case.
+fn without_second(a: CAnswer) -> CAnswer {
     if a.number != 0 {
         return a;
     }
-    answer_of(0, a.first, 0, a.third)
+    answer(0, a.first, 0, a.third)
 }
 
-// The list, then the subject.
-fn match_table(
-    record: &[u8],
-    list: List,
-    nodes: &Nodes,
-    targets: &Targets,
-    out: &mut Targets,
-) -> CAnswer {
-    let subject = after_list(record, CALL);
-    without_peak(router_c::router_match(list.nodes, list.targets, nodes, targets, subject, out))
+// The length of the list that an answer tells.
+fn length_of(a: CAnswer) -> u64 {
+    if a.number == 0 { a.first } else { 0 }
 }
 
-// The list with other entries and bytes in use; the table stays. The original says of an insert only that it is done.
-fn inserted(state: State, a: CAnswer) -> State {
-    let mut list = state.list;
-    if a.number != 0 {
-        return with_answer(state, a);
+impl List {
+    fn new() -> List {
+        List {
+            entries: 0,
+            used: 0,
+            words: [0; ENTRY_NUMBERS],
+            store: [0; STORE_BYTES],
+            node_count: 0,
+            target_count: 0,
+            generation: 0,
+            nodes: [0; NODE_WORDS],
+            targets: [0; ENTRIES],
+        }
     }
-    list.entries = a.first as usize;
-    list.used = a.second as usize;
-    with_list(state, list, answer_of(0, 0, 0, 0))
-}
 
-// The list with another table. The original reports no worst case.
-fn built(state: State, a: CAnswer) -> State {
-    let mut list = state.list;
-    if a.number != 0 {
-        return with_answer(state, a);
+    // Nothing.
+    fn begin(&mut self) -> CAnswer {
+        self.entries = 0;
+        self.used = 0;
+        answer(0, 0, 0, 0)
     }
-    list.nodes = a.first as usize;
-    list.targets = list.entries;
-    list.generation = a.third;
-    with_list(state, list, answer_of(0, a.first, 0, a.third))
-}
 
-fn on_list(
-    record: &[u8],
-    state: State,
-    words: &mut Words,
-    store: &mut Store,
-    nodes: &mut Nodes,
-    targets: &mut Targets,
-    out: &mut Targets,
-) -> State {
-    let list = state.list;
-    match kind_of(record) {
-        NEW_LIST => inserted(state, answer_of(0, 0, 0, 0)),
-        INSERT => inserted(state, insert(record, list, words, store)),
-        BUILD => built(state, build(record, list, words, store, nodes, targets)),
-        MATCH_TABLE => with_answer(state, match_table(record, list, nodes, targets, out)),
-        _ => state,
+    // The target, then the pattern. The original says of an insert only that it is done.
+    fn insert(&mut self, mut fields: Fields<'_>) -> CAnswer {
+        let target = fields.word().value;
+        let given = router_insert(
+            self.entries,
+            self.used,
+            &mut self.words,
+            &mut self.store,
+            fields.rest(),
+            target,
+        );
+        if given.number != 0 {
+            return given;
+        }
+        self.entries = given.first as usize;
+        self.used = given.second as usize;
+        answer(0, 0, 0, 0)
+    }
+
+    fn build(&mut self, generation: u64) -> CAnswer {
+        let end = self.entries.saturating_mul(3).min(ENTRY_NUMBERS);
+        let given = router_build(
+            &self.words[..end],
+            &self.store,
+            &mut self.nodes,
+            &mut self.targets,
+            generation,
+        );
+        if given.number == 0 {
+            self.node_count = given.first as usize;
+            self.target_count = self.entries;
+            self.generation = given.third;
+        }
+        without_second(given)
+    }
+
+    fn find(&self, subject: &[u8], out: &mut Targets) -> CAnswer {
+        without_second(router_match(
+            self.node_count,
+            self.target_count,
+            &self.nodes,
+            &self.targets,
+            subject,
+            out,
+        ))
     }
 }
-
-// ---- Calls on the snapshot.
 
 // The generation of a snapshot that is made counts as stamped.
-fn made(m: CMadeSnapshot) -> CStored {
+fn stored(m: CMadeSnapshot) -> CStored {
     CStored {
         number: m.number,
         stamped: m.generation,
@@ -508,588 +467,382 @@ fn made(m: CMadeSnapshot) -> CStored {
     }
 }
 
-// A snapshot of the table that was built last.
-fn new_snapshot(list: List, nodes: &Nodes, targets: &Targets, area: &mut Area) -> CStored {
-    made(router_c::router_snapshot_new(
-        list.nodes,
-        list.targets,
-        list.generation,
-        nodes,
-        targets,
-        area,
-    ))
-}
-
-// A snapshot of the table of no entries.
-fn empty_snapshot(area: &mut Area) -> CStored {
-    made(router_c::router_snapshot_empty(area))
-}
-
-// The table that was built last.
-fn store(
-    snapshot: CSnapshot,
-    list: List,
-    nodes: &Nodes,
-    targets: &Targets,
-    area: &mut Area,
-) -> CStored {
-    router_c::router_store(
-        snapshot,
-        list.nodes,
-        list.targets,
-        list.generation,
-        nodes,
-        targets,
-        area,
-    )
-}
-
-fn stored(state: State, s: CStored) -> State {
-    let mut next = state;
-    next.answer = answer_of(s.number, 0, 0, s.stamped);
-    next.snapshot = snapshot_of(s.nodes, s.targets, s.generation, s.next);
-    next
-}
-
-// The generation, the list, then the subject.
-fn match_snapshot(record: &[u8], snapshot: CSnapshot, area: &Area, out: &mut Targets) -> CAnswer {
-    let subject = after_list(record, CALL_AND_GENERATION);
-    without_peak(router_c::router_snapshot_match(snapshot, area, subject, out))
-}
-
-// The subject.
-fn verdict(record: &[u8], snapshot: CSnapshot, area: &Area, out: &mut Targets) -> CAnswer {
-    let v = router_c::router_resolve_single_home(snapshot, area, rest(record, CALL), out);
-    answer_of(v.number, v.kind, v.value, 0)
-}
-
-fn on_snapshot(
-    record: &[u8],
-    state: State,
-    nodes: &Nodes,
-    targets: &Targets,
-    area: &mut Area,
-    out: &mut Targets,
-) -> State {
-    let list = state.list;
-    let snapshot = state.snapshot;
-    match kind_of(record) {
-        NEW_SNAPSHOT => stored(state, new_snapshot(list, nodes, targets, area)),
-        EMPTY_SNAPSHOT => stored(state, empty_snapshot(area)),
-        STORE => stored(state, store(snapshot, list, nodes, targets, area)),
-        MATCH_SNAPSHOT => with_answer(state, match_snapshot(record, snapshot, area, out)),
-        VERDICT => with_answer(state, verdict(record, snapshot, area, out)),
-        _ => state,
-    }
-}
-
-// ---- Calls on a cache. What they give is an answer, and the cache as they leave it.
-
-// The capacity asked for; the one that the cache has is the first value.
-fn new_cache(record: &[u8], stamps: &Stamps, keys: &Keys, kept: &Kept) -> CResolved {
-    let m = router_c::router_cache_new(word_at(record, CACHE_CALL) as usize, stamps, keys, kept);
-    given_of(
-        m.number,
-        m.capacity,
-        cache_of(m.capacity, m.used, m.generation, m.tick, m.walks),
-    )
-}
-
-// Nothing.
-fn clear(cache: CCache) -> CResolved {
-    given_of(0, 0, router_c::router_cache_clear(cache))
-}
-
-// The list, then the subject.
-fn resolve(
-    record: &[u8],
-    cache: CCache,
-    stamps: &mut Stamps,
-    keys: &mut Keys,
-    kept: &mut Kept,
-    snapshot: CSnapshot,
-    area: &Area,
-    out: &mut Targets,
-) -> CResolved {
-    let subject = after_list(record, CACHE_CALL);
-    router_c::router_resolve(cache, stamps, keys, kept, snapshot, area, subject, out)
-}
-
-// The subject.
-fn cached_verdict(
-    record: &[u8],
-    cache: CCache,
-    stamps: &mut Stamps,
-    keys: &mut Keys,
-    kept: &mut Kept,
-    snapshot: CSnapshot,
-    area: &Area,
-    out: &mut Targets,
-) -> CResolved {
-    let subject = rest(record, CACHE_CALL);
-    router_c::router_resolve_single_home_cached(
-        cache, stamps, keys, kept, snapshot, area, subject, out,
-    )
-}
-
-// Makes the call of a record, in the cache's areas.
-fn call_on_cache(
-    record: &[u8],
-    cache: CCache,
-    stamps: &mut Stamps,
-    keys: &mut Keys,
-    kept: &mut Kept,
-    snapshot: CSnapshot,
-    area: &Area,
-    out: &mut Targets,
-) -> CResolved {
-    match kind_of(record) {
-        NEW_CACHE => new_cache(record, stamps, keys, kept),
-        CLEAR => clear(cache),
-        RESOLVE => resolve(record, cache, stamps, keys, kept, snapshot, area, out),
-        _ => cached_verdict(record, cache, stamps, keys, kept, snapshot, area, out),
-    }
-}
-
-fn kept_at(kept: &Kept, at: usize) -> u32 {
-    if at < SLOT_TARGETS {
-        return kept[at];
-    }
-    0
-}
-
-// The targets that a slot keeps go over the output, where a walk writes its list.
-fn show(kept: &Kept, from: usize, out: &mut Targets) {
-    let mut i = 0;
-    while i < MOST_KEPT {
-        out[i] = kept_at(kept, ahead(from, i));
-        i += 1;
-    }
-}
-
-// A list that lies in what the cache keeps is shown.
-fn show_hit(given: CResolved, kept: &Kept, out: &mut Targets) {
-    if given.first == 0 {
-        show(kept, given.second as usize, out);
-    }
-}
-
-// The state in what the last call gave.
-fn state_in(r: CResolved) -> CCache {
-    cache_of(r.capacity, r.used, r.generation, r.tick, r.walks)
-}
-
-// The cache after the call of a record.
-fn call_cache(
-    record: &[u8],
-    cache: Cache,
-    snapshot: CSnapshot,
-    area: &Area,
-    out: &mut Targets,
-) -> Cache {
-    let mut stamps = cache.stamps;
-    let mut keys = cache.keys;
-    let mut kept = cache.kept;
-    let state = state_in(cache.given);
-    let given = call_on_cache(
-        record,
-        state,
-        &mut stamps,
-        &mut keys,
-        &mut kept,
-        snapshot,
-        area,
-        out,
-    );
-    show_hit(given, &kept, out);
-    Cache {
-        given,
-        stamps,
-        keys,
-        kept,
-    }
-}
-
-// The cache that a record is about.
-fn cache_in(record: &[u8], state: State) -> Cache {
-    if byte_at(record, WHICH) == 0 {
-        return state.one;
-    }
-    state.two
-}
-
-// The original gives the list of a resolve, and not where it lies.
-fn answer_in(kind: usize, r: CResolved) -> CAnswer {
-    if kind == RESOLVE {
-        if r.number == 0 {
-            return answer_of(0, r.third, 0, 0);
+impl Standing {
+    fn new() -> Standing {
+        Standing {
+            snapshot: CSnapshot {
+                nodes: 0,
+                targets: 0,
+                generation: 0,
+                next: 0,
+            },
+            area: [0; AREA_WORDS],
         }
     }
-    answer_of(r.number, r.first, r.second, 0)
-}
 
-fn with_cache(record: &[u8], state: State, cache: Cache) -> State {
-    let mut next = state;
-    next.answer = answer_in(kind_of(record), cache.given);
-    if byte_at(record, WHICH) == 0 {
-        next.one = cache;
-        return next;
+    // The snapshot afterwards, and the generation stamped.
+    fn after(&mut self, s: CStored) -> CAnswer {
+        self.snapshot = CSnapshot {
+            nodes: s.nodes as usize,
+            targets: s.targets as usize,
+            generation: s.generation,
+            next: s.next,
+        };
+        answer(s.number, 0, 0, s.stamped)
     }
-    next.two = cache;
-    next
-}
 
-// Whether a record is of a call on a cache.
-fn is_on_cache(record: &[u8]) -> bool {
-    let kind = kind_of(record);
-    if kind < NEW_CACHE {
-        return false;
-    }
-    kind <= CACHED_VERDICT
-}
-
-fn on_cache(record: &[u8], state: State, area: &Area, out: &mut Targets) -> State {
-    if is_on_cache(record) {
-        let snapshot = state.snapshot;
-        return with_cache(
-            record,
-            state,
-            call_cache(record, cache_in(record, state), snapshot, area, out),
+    // The generation afterwards. The snapshot is of the table that was built last.
+    fn begin(&mut self, list: &List) -> CAnswer {
+        let made = router_snapshot_new(
+            list.node_count,
+            list.target_count,
+            list.generation,
+            &list.nodes,
+            &list.targets,
+            &mut self.area,
         );
+        self.after(stored(made))
     }
-    state
-}
 
-// ---- What is counted: the differences, the records of each kind at the kind, and all records; and what is said of a
-// difference.
+    // The same of the table of no entries.
+    fn begin_empty(&mut self) -> CAnswer {
+        let made = router_snapshot_empty(&mut self.area);
+        self.after(stored(made))
+    }
 
-const RECORDS: usize = 18;
+    // The generation stamped, and the one afterwards. The table that was built last is stored.
+    fn store(&mut self, list: &List) -> CAnswer {
+        let given = router_store(
+            self.snapshot,
+            list.node_count,
+            list.target_count,
+            list.generation,
+            &list.nodes,
+            &list.targets,
+            &mut self.area,
+        );
+        self.after(given)
+    }
 
-const DIFFERENCES: usize = 19;
+    fn find(&self, subject: &[u8], out: &mut Targets) -> CAnswer {
+        without_second(router_snapshot_match(self.snapshot, &self.area, subject, out))
+    }
 
-const COUNTS: usize = 20;
-
-type Tally = [u64; COUNTS];
-
-fn say(rt: &impl Print, text: &[u8]) -> io::Result<()> {
-    rt.write_all(text)
-}
-
-// One more at a place.
-fn count(tally: &mut Tally, place: usize) {
-    if place < COUNTS {
-        tally[place] = std::num::wrapping_add_u64(tally[place], 1);
+    fn verdict(&self, subject: &[u8], out: &mut Targets) -> CAnswer {
+        let given = router_resolve_single_home(self.snapshot, &self.area, subject, out);
+        answer(given.number, given.kind, given.value, 0)
     }
 }
 
-// The number at a place.
-fn counted(tally: &Tally, place: usize) -> u64 {
-    if place < COUNTS {
-        return tally[place];
-    }
-    0
-}
-
-fn say_value(rt: &impl Print, text: &[u8], n: u64) -> io::Result<()> {
-    say(rt, text)?;
-    print!(rt; "{n}")
-}
-
-fn say_difference(
-    rt: &impl Print,
-    record: u64,
-    at: usize,
-    came: u64,
-    recorded: u64,
-) -> io::Result<()> {
-    say_value(rt, b"record ", record)?;
-    say_value(rt, b", at ", at as u64)?;
-    say_value(rt, b": ", came)?;
-    say_value(rt, b", recorded ", recorded)?;
-    say(rt, b"\n")
-}
-
-// Counts and says a difference at a place of the record, unless what came out is what is recorded.
-fn hold(rt: &impl Print, tally: &mut Tally, at: usize, came: u64, recorded: u64) -> io::Result<()> {
-    if came == recorded {
-        return Ok(());
-    }
-    count(tally, DIFFERENCES);
-    say_difference(rt, counted(tally, RECORDS), at, came, recorded)
-}
-
-fn hold_word(
-    rt: &impl Print,
-    tally: &mut Tally,
-    record: &[u8],
-    at: usize,
-    came: u64,
-) -> io::Result<()> {
-    hold(rt, tally, at, came, word_at(record, at) as u64)
-}
-
-fn hold_number(
-    rt: &impl Print,
-    tally: &mut Tally,
-    record: &[u8],
-    at: usize,
-    came: u64,
-) -> io::Result<()> {
-    if at == NOWHERE {
-        return Ok(());
-    }
-    hold(rt, tally, at, came, number_at(record, at))
-}
-
-// Counts a record, and holds an answer to it.
-fn hold_answer(rt: &impl Print, tally: &mut Tally, record: &[u8], a: CAnswer) -> io::Result<()> {
-    count(tally, RECORDS);
-    count(tally, kind_of(record));
-    hold(rt, tally, NUMBER, a.number, byte_at(record, NUMBER) as u64)?;
-    hold_word(rt, tally, record, FIRST, a.first)?;
-    hold_word(rt, tally, record, SECOND, a.second)?;
-    hold_number(
-        rt,
-        tally,
-        record,
-        generation_at(kind_of(record), a.number),
-        a.third,
-    )
-}
-
-fn target_at(out: &Targets, at: usize) -> u32 {
-    if at < ENTRIES {
-        return out[at];
-    }
-    0
-}
-
-// Holds the targets that the output starts with to those from a place of the record on.
-fn hold_targets(
-    rt: &impl Print,
-    tally: &mut Tally,
-    record: &[u8],
-    at: usize,
-    count: u16,
-    out: &Targets,
-) -> io::Result<()> {
-    let mut place = at;
-    for i in 0..count {
-        hold_word(rt, tally, record, place, target_at(out, i as usize) as u64)?;
-        place = ahead(place, 4);
-    }
-    Ok(())
-}
-
-// The length of the list of an answer.
-fn length_of(a: CAnswer) -> u64 {
-    if a.number == 0 {
-        return a.first;
-    }
-    0
-}
-
-// Holds a list, which the output starts with.
-fn hold_list(
-    rt: &impl Print,
-    tally: &mut Tally,
-    record: &[u8],
-    a: CAnswer,
-    out: &Targets,
-) -> io::Result<()> {
-    let at = list_at(kind_of(record));
-    if at == NOWHERE {
-        return Ok(());
-    }
-    let count = short_at(record, at);
-    hold(rt, tally, at, length_of(a), count as u64)?;
-    hold_targets(rt, tally, record, ahead(at, 2), count, out)
-}
-
-// A cache as a call left it.
-fn hold_cache(
-    rt: &impl Print,
-    tally: &mut Tally,
-    record: &[u8],
-    given: CResolved,
-) -> io::Result<()> {
-    hold_word(rt, tally, record, SUBJECTS, given.used)?;
-    hold_number(rt, tally, record, WALKS, given.walks)?;
-    hold_number(rt, tally, record, GENERATION, given.generation)
-}
-
-// What a call left, besides its answer and its list.
-fn hold_state(rt: &impl Print, tally: &mut Tally, record: &[u8], state: State) -> io::Result<()> {
-    let snapshot = state.snapshot;
-    if kind_of(record) == STORE {
-        return hold_number(rt, tally, record, CALL_AND_GENERATION, snapshot.generation);
-    }
-    if is_on_cache(record) {
-        let cache = cache_in(record, state);
-        return hold_cache(rt, tally, record, cache.given);
-    }
-    Ok(())
-}
-
-// Holds what a call gave to its record.
-fn hold_record(
-    rt: &impl Print,
-    tally: &mut Tally,
-    record: &[u8],
-    state: State,
-    out: &Targets,
-) -> io::Result<()> {
-    hold_answer(rt, tally, record, state.answer)?;
-    hold_list(rt, tally, record, state.answer, out)?;
-    hold_state(rt, tally, record, state)
-}
-
-// ---- The whole recording.
-
-// The first record lies behind the number of records, in eight bytes.
-const FIRST_RECORD: usize = 8;
-
-// Makes the call of the record at a place and holds what it gives. Each part takes the records of its kinds alone.
-fn replay_next(
-    rt: &impl Print,
-    tally: &mut Tally,
-    recording: &[u8],
-    at: usize,
-    before: State,
-    words: &mut Words,
-    store: &mut Store,
-    nodes: &mut Nodes,
-    targets: &mut Targets,
-    area: &mut Area,
-    out: &mut Targets,
-) -> io::Result<State> {
-    let record = text_at(recording, at);
-    let mut state = on_texts(record, before, out);
-    state = on_list(record, state, words, store, nodes, targets, out);
-    state = on_snapshot(record, state, nodes, targets, area, out);
-    state = on_cache(record, state, area, out);
-    hold_record(rt, tally, record, state, out)?;
-    Ok(state)
-}
-
-// All records. The place behind them.
-fn replay_all(
-    rt: &impl Print,
-    tally: &mut Tally,
-    recording: &[u8],
-    words: &mut Words,
-    store: &mut Store,
-    nodes: &mut Nodes,
-    targets: &mut Targets,
-    area: &mut Area,
-    out: &mut Targets,
-) -> io::Result<usize> {
-    let mut state = fresh();
-    let mut at = FIRST_RECORD;
-    let records = number_at(recording, 0);
-    for _ in 0..records {
-        state = replay_next(
-            rt, tally, recording, at, state, words, store, nodes, targets, area, out,
-        )?;
-        at = after_text(recording, at);
-    }
-    Ok(at)
-}
-
-// Says a byte, before an end of a line the number at a place. The next place.
-fn say_byte(rt: &impl Print, tally: &Tally, byte: u8, place: usize) -> io::Result<usize> {
-    if byte == b'\n' {
-        say_value(rt, b" ", counted(tally, place))?;
-        say(rt, b"\n")?;
-        return Ok(ahead(place, 1));
-    }
-    say(rt, &[byte])?;
-    Ok(place)
-}
-
-// Says a text, a number of the tally before each end of a line: those from a place on.
-fn say_counts(rt: &impl Print, tally: &Tally, lines: &[u8], first: usize) -> io::Result<()> {
-    let mut place = first;
-    for byte in lines {
-        place = say_byte(rt, tally, *byte, place)?;
-    }
-    Ok(())
-}
-
-fn report(rt: &impl Print, tally: &Tally) -> io::Result<()> {
-    say_counts(
-        rt,
-        tally,
-        b"parse_literal\nparse\nmatches\nsingle_home\nnew list\ninsert\nbuild\n",
-        PARSE_LITERAL,
-    )?;
-    say_counts(
-        rt,
-        tally,
-        b"match in the table\nnew snapshot\nempty snapshot\nstore\nmatch in the snapshot\n",
-        MATCH_TABLE,
-    )?;
-    say_counts(
-        rt,
-        tally,
-        b"resolve_single_home\nnew cache\nclear\nresolve\nresolve_single_home_cached\n",
-        VERDICT,
-    )?;
-    say_counts(rt, tally, b"records\ndifferences\n", RECORDS)
-}
-
-// Lends the areas.
-fn replay(rt: &impl Print, recording: &[u8], tally: &mut Tally) -> io::Result<usize> {
-    let mut words = [0usize; ENTRY_NUMBERS];
-    let mut store = [0u8; STORE_BYTES];
-    let mut nodes = [0u32; NODE_WORDS];
-    let mut targets = [0u32; ENTRIES];
-    let mut area = [0u32; AREA_WORDS];
-    let mut out = [0u32; ENTRIES];
-    replay_all(
-        rt,
-        tally,
-        recording,
-        &mut words,
-        &mut store,
-        &mut nodes,
-        &mut targets,
-        &mut area,
-        &mut out,
-    )
-}
-
-// Replays a recording, whose last record is to end where it ends, and reports.
-fn replay_and_report(rt: &impl Print, recording: &[u8]) -> io::Result<()> {
-    let mut tally = [0u64; COUNTS];
-    let end = replay(rt, recording, &mut tally)?;
-    hold(rt, &mut tally, end, recording.len() as u64, end as u64)?;
-    report(rt, &tally)
-}
-
-// Room for a recording.
-const RECORDING_BYTES: usize = 262144;
-
-// Reads until nothing more comes or there is no more room, and says how many bytes came.
-fn read_full(rt: &impl Input, room: &mut [u8]) -> io::Result<usize> {
-    let mut reader = rt.reader();
-    let mut n = 0;
-    while n < room.len() {
-        let came = reader.read(&mut room[n..])?;
-        if came == 0 {
-            return Ok(n);
+impl Cache {
+    fn new() -> Cache {
+        Cache {
+            state: CCache {
+                capacity: 0,
+                used: 0,
+                generation: 0,
+                tick: 0,
+                walks: 0,
+            },
+            stamps: [0; SLOTS],
+            keys: [0; KEY_BYTES],
+            kept: [0; KEPT_WORDS],
         }
-        n += came;
     }
-    Ok(n)
+
+    // The capacity asked for; the one that the cache has is the first value.
+    fn begin(&mut self, capacity: u32, out: &mut Targets) -> CAnswer {
+        let made = router_cache_new(capacity as usize, &self.stamps, &self.keys, &self.kept);
+        self.state = CCache {
+            capacity: made.capacity as usize,
+            used: made.used as usize,
+            generation: made.generation,
+            tick: made.tick,
+            walks: made.walks,
+        };
+        self.shown(answer(made.number, made.capacity, 0, 0), out)
+    }
+
+    fn clear(&mut self, out: &mut Targets) -> CAnswer {
+        self.state = router_cache_clear(self.state);
+        self.shown(answer(0, 0, 0, 0), out)
+    }
+
+    // Kept: where an answer's first value is 0, the slot that its second names goes over the output, with zeros behind
+    // the last slot: lists that are recorded as longer than they come are held to what the output has there.
+    fn shown(&self, given: CAnswer, out: &mut Targets) -> CAnswer {
+        if given.first == 0 {
+            let kept = self.kept.get(given.second as usize..).unwrap_or_default();
+            for (i, word) in out.iter_mut().take(MOST_KEPT).enumerate() {
+                *word = kept.get(i).copied().unwrap_or_default();
+            }
+        }
+        given
+    }
+
+    // The cache afterwards, and the answer.
+    fn after(&mut self, r: CResolved, out: &mut Targets) -> CAnswer {
+        self.state = CCache {
+            capacity: r.capacity as usize,
+            used: r.used as usize,
+            generation: r.generation,
+            tick: r.tick,
+            walks: r.walks,
+        };
+        self.shown(answer(r.number, r.first, r.second, r.third), out)
+    }
+
+    fn resolve(&mut self, standing: &Standing, subject: &[u8], out: &mut Targets) -> CAnswer {
+        let given = router_resolve(
+            self.state,
+            &mut self.stamps,
+            &mut self.keys,
+            &mut self.kept,
+            standing.snapshot,
+            &standing.area,
+            subject,
+            out,
+        );
+        self.after(given, out)
+    }
+
+    fn verdict(&mut self, standing: &Standing, subject: &[u8], out: &mut Targets) -> CAnswer {
+        let given = router_resolve_single_home_cached(
+            self.state,
+            &mut self.stamps,
+            &mut self.keys,
+            &mut self.kept,
+            standing.snapshot,
+            &standing.area,
+            subject,
+            out,
+        );
+        self.after(given, out)
+    }
 }
 
-fn read_and_replay(rt: &(impl Input + Print), room: &mut [u8]) -> io::Result<()> {
-    let n = read_full(rt, room)?;
-    replay_and_report(rt, first_bytes(room, n))
+// All of it.
+#[derive(Drop)]
+struct Router {
+    list: List,
+    standing: Standing,
+    caches: [Cache; 2],
+    out: Targets,
 }
+
+impl Router {
+    fn new() -> Router {
+        Router {
+            list: List::new(),
+            standing: Standing::new(),
+            caches: [Cache::new(), Cache::new()],
+            out: [0; ENTRIES],
+        }
+    }
+
+    // Makes the call of a record and holds what it gives.
+    fn call<R: Print>(
+        &mut self,
+        tally: &mut Tally<'_, R>,
+        kind: Kind,
+        mut record: Record<'_>,
+    ) -> io::Result<()> {
+        let fields = record.fields;
+        let recorded = record.answer;
+        match kind {
+            Kind::ParseLiteral => tally.hold_answer(router_parse_literal(fields.rest()), recorded),
+            Kind::Parse => tally.hold_answer(router_parse(fields.rest()), recorded),
+            Kind::Matches => tally.hold_answer(matches(fields), recorded),
+            Kind::SingleHome => tally.hold_answer(single_home(fields, &mut self.out), recorded),
+            Kind::NewList => tally.hold_answer(self.list.begin(), recorded),
+            Kind::Insert => tally.hold_answer(self.list.insert(fields), recorded),
+            Kind::Build => self.build(tally, record),
+            Kind::MatchTable => self.match_table(tally, record),
+            Kind::NewSnapshot => tally.hold_stamped(self.standing.begin(&self.list), &mut record),
+            Kind::EmptySnapshot => tally.hold_stamped(self.standing.begin_empty(), &mut record),
+            Kind::Store => self.store(tally, record),
+            Kind::MatchSnapshot => self.match_snapshot(tally, record),
+            Kind::Verdict => tally.hold_answer(self.verdict(fields), recorded),
+            Kind::NewCache | Kind::Clear | Kind::Resolve | Kind::CachedVerdict => self.call_cache(
+                tally, kind, record,
+            ),
+        }
+    }
+
+    // The generation.
+    fn build<R: Print>(
+        &mut self,
+        tally: &mut Tally<'_, R>,
+        mut record: Record<'_>,
+    ) -> io::Result<()> {
+        let generation = record.fields.number();
+        let given = self.list.build(generation.value);
+        tally.hold_answer(given, record.answer)?;
+        if given.number != 0 {
+            return Ok(());
+        }
+        tally.hold(given.third, generation)
+    }
+
+    // The list, then the subject.
+    fn match_table<R: Print>(
+        &mut self,
+        tally: &mut Tally<'_, R>,
+        mut record: Record<'_>,
+    ) -> io::Result<()> {
+        let list = record.fields.list();
+        let given = self.list.find(record.fields.rest(), &mut self.out);
+        tally.hold_answer(given, record.answer)?;
+        tally.hold_list(length_of(given), list, &self.out)
+    }
+
+    fn store<R: Print>(
+        &mut self,
+        tally: &mut Tally<'_, R>,
+        mut record: Record<'_>,
+    ) -> io::Result<()> {
+        tally.hold_stamped(self.standing.store(&self.list), &mut record)?;
+        tally.hold(self.standing.snapshot.generation, record.fields.number())
+    }
+
+    // The generation, the list, then the subject.
+    fn match_snapshot<R: Print>(
+        &mut self,
+        tally: &mut Tally<'_, R>,
+        mut record: Record<'_>,
+    ) -> io::Result<()> {
+        let generation = record.fields.number();
+        let list = record.fields.list();
+        let given = self.standing.find(record.fields.rest(), &mut self.out);
+        tally.hold_answer(given, record.answer)?;
+        tally.hold(given.third, generation)?;
+        tally.hold_list(length_of(given), list, &self.out)
+    }
+
+    // The subject.
+    fn verdict(&mut self, fields: Fields<'_>) -> CAnswer {
+        self.standing.verdict(fields.rest(), &mut self.out)
+    }
+
+    // Which cache; then, as the call leaves it, the subjects kept, the walks and the generation; then what the call
+    // takes.
+    fn call_cache<R: Print>(
+        &mut self,
+        tally: &mut Tally<'_, R>,
+        kind: Kind,
+        mut record: Record<'_>,
+    ) -> io::Result<()> {
+        let which = record.fields.byte().value;
+        let standing = &self.standing;
+        let out = &mut self.out;
+        let cache = &mut self.caches[usize::from(which.min(1))];
+        let subjects = record.fields.word();
+        let walks = record.fields.number();
+        let generation = record.fields.number();
+        match kind {
+            Kind::NewCache => {
+                let given = cache.begin(record.fields.word().value, out);
+                tally.hold_answer(given, record.answer)?;
+            }
+            Kind::Clear => tally.hold_answer(cache.clear(out), record.answer)?,
+            Kind::Resolve => resolve(cache, standing, out, tally, record)?,
+            _ => {
+                let given = cache.verdict(standing, record.fields.rest(), out);
+                tally.hold_answer(given, record.answer)?;
+            }
+        }
+        tally.hold(cache.state.used as u64, subjects)?;
+        tally.hold(cache.state.walks, walks)?;
+        tally.hold(cache.state.generation, generation)
+    }
+}
+
+// The pattern, then the subject.
+fn matches(mut fields: Fields<'_>) -> CAnswer {
+    let pattern = fields.text();
+    router_matches(pattern, fields.rest())
+}
+
+// The list. All of the output is written, with what stands behind the list, or zeros.
+fn single_home(mut fields: Fields<'_>, out: &mut Targets) -> CAnswer {
+    let list = fields.list();
+    let mut words = list.fields;
+    for word in out.iter_mut() {
+        *word = words.word().value;
+    }
+    let count = usize::from(list.count.value);
+    router_single_home(out.get(..count).unwrap_or_default())
+}
+
+// The list, then the subject. The original says how long the list of a resolve is, and not where it lies.
+fn resolve<R: Print>(
+    cache: &mut Cache,
+    standing: &Standing,
+    out: &mut Targets,
+    tally: &mut Tally<'_, R>,
+    mut record: Record<'_>,
+) -> io::Result<()> {
+    let list = record.fields.list();
+    let mut given = cache.resolve(standing, record.fields.rest(), out);
+    if given.number == 0 {
+        given = answer(0, given.third, 0, 0);
+    }
+    tally.hold_answer(given, record.answer)?;
+    tally.hold_list(length_of(given), list, out)
+}
+
+// ---- The whole recording: the number of records in eight bytes, then the records, each behind its length.
+
+fn replay<R: Print>(tally: &mut Tally<'_, R>, recording: &[u8]) -> io::Result<()> {
+    let mut router = Router::new();
+    let mut fields = Fields::new(recording);
+    let records = fields.number().value;
+    for _ in 0..records {
+        replay_record(tally, &mut router, Fields::new(fields.text()))?;
+    }
+    let end = Field {
+        at: fields.at,
+        value: fields.at as u64,
+    };
+    tally.hold(recording.len() as u64, end)
+}
+
+fn replay_record<R: Print>(
+    tally: &mut Tally<'_, R>,
+    router: &mut Router,
+    mut fields: Fields<'_>,
+) -> io::Result<()> {
+    tally.records = tally.records.wrapping_add(1);
+    let number = fields.byte().value;
+    let recorded = fields.answer();
+    match Kind::try_from(number) {
+        Ok(kind) => {
+            tally.count(kind);
+            router.call(
+                tally,
+                kind,
+                Record {
+                    answer: recorded,
+                    fields,
+                },
+            )
+        }
+        Err(no_kind) => {
+            tally.count_no_kind(no_kind);
+            tally.hold_answer(answer(NO_ANSWER, 0, 0, 0), recorded)
+        }
+    }
+}
+
+// Room for a recording. A longer one is replayed as far as the room goes.
+const RECORDING_BYTES: usize = 262144;
 
 fn main(rt: HostRuntime) -> io::Result<()> {
     let mut recording = [0u8; RECORDING_BYTES];
-    read_and_replay(&rt, &mut recording)
+    let mut room = recording.as_mut_slice();
+    let came = io::copy(&mut rt.reader().take(RECORDING_BYTES as u64), &mut room)?;
+    let recording = recording.get(..came as usize).unwrap_or_default();
+    let mut tally = Tally::new(&rt);
+    replay(&mut tally, recording)?;
+    tally.report()
 }

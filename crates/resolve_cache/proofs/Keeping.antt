@@ -13,12 +13,13 @@ use Rattle.sublist_snapshot.specs.Snapshot.{stands_in, walk_of, with_generation,
 use Rattle.sublist_snapshot.proofs.Standing.{match_walk}
 use Rattle.resolve_cache_rules.specs.declared.ResolveCache.{ResolveCache}
 use Rattle.resolve_cache_rules.specs.Area.{Area, keep}
-use Rattle.resolve_cache_rules.specs.Cache.{place, ticked, walked, grown, qualifies, in_out, Resolved}
+use Rattle.resolve_cache_rules.specs.Cache.{adopt, place, ticked, walked, grown, qualifies, in_out, Resolved}
 use Rattle.resolve_cache_rules.specs.Cache.{unchanged, missed, miss, if_accepted}
 use Rattle.resolve_cache.specs.declared.ResolveError.{ResolveError}
 use Rattle.resolve_cache.specs.Answers.{resolve_refusal}
 use Rattle.resolve_cache.proofs.Refusals.{refusal-number}
-use Rattle.resolve_cache.specs.Deciding.{Keeps, current, walking}
+use Rattle.resolve_cache.specs.Deciding.{Keeps}
+use Rattle.resolve_cache.proofs.Resolving.{walking}
 
 module _ (c : ResolveCache) (a : Area) (s : Snapshot) (words subject out : List ℕ) where
   -- what a list that was kept, or was not, leaves
@@ -49,7 +50,7 @@ module _ (c : ResolveCache) (a : Area) (s : Snapshot) (words subject out : List 
     pub counted : count ≡ length list
     pub written : after ≡ over list out
     pub fits : length list ≤ length out
-    pub is : missed c a subject out (current c a s words subject out) list ≡ walking c a s words subject out
+    pub is : missed c a subject out (adopt s.generation c) list ≡ walking c a s words subject out
 
   module _ (g : Generation) (e : ResolveCache) where
     abbrev matching : Answer → Bool → Walked → Outcome
@@ -90,12 +91,12 @@ module _ (c : ResolveCache) (a : Area) (s : Snapshot) (words subject out : List 
   walk_refused e after q =
       let n = refusal-number e in
       rw n.2
-      (refuse s.generation (current c a s words subject out) (grammar false subject) (stands_in s words) (walk_of s words subject) n.0 n.1 after
+      (refuse s.generation (adopt s.generation c) (grammar false subject) (stands_in s words) (walk_of s words subject) n.0 n.1 after
       ((rw n.2 at q) ∙ match_walk s words subject out))
 
   pub walk_lists : (count peak n : ℕ) (after : List ℕ) → outcome (answer 0 (count ∷ peak ∷ n ∷ [])) after ≡ match_in s words subject out → Lists count after
   walk_lists count peak n after q =
-      let l = listing s.generation (current c a s words subject out) (grammar false subject) (stands_in s words) (walk_of s words subject) count peak n after (q ∙ match_walk s words subject out) in
+      let l = listing s.generation (adopt s.generation c) (grammar false subject) (stands_in s words) (walk_of s words subject) count peak n after (q ∙ match_walk s words subject out) in
       record { list = l.0; counted = l.1; written = l.2; fits = l.3; is = l.4 }
 
   -- the list is that part of the output
@@ -103,7 +104,7 @@ module _ (c : ResolveCache) (a : Area) (s : Snapshot) (words subject out : List 
     written-list : take count after ≡ l.list
     written-list = ap (λ n. take n after) l.counted ∙ ap (take (length l.list)) l.written ∙ take-append_seam l.list (drop (length l.list) out)
 
-    pub kept-walk : (e : ResolveCache) → e ≡ current c a s words subject out → (d : ResolveCache) (area : Area) → Keeps e a subject (take count after) d area
+    pub kept-walk : (e : ResolveCache) → e ≡ adopt s.generation c → (d : ResolveCache) (area : Area) → Keeps e a subject (take count after) d area
         → ◌≡◌ {A = Resolved} (record { says = in_out count; cache = d; area = area; out = after }) (walking c a s words subject out)
     kept-walk e h d area k =
         let left : ◌≡◌ {A = Resolved} (record { says = in_out count; cache = d; area = area; out = after }) (missed c a subject out e l.list) =

@@ -12,13 +12,13 @@ use Rattle.sublist_snapshot.specs.Snapshot.{stands_in, walk_of}
 use Rattle.resolve_cache_rules.specs.declared.ResolveCache.{ResolveCache}
 use Rattle.resolve_cache_rules.specs.Area.{Area, key_length, target_count, touch}
 use Rattle.resolve_cache_rules.specs.Cache.{short, bad_from, bad, keeps_at, find_from, emptied, adopt, ticked, hit, in_kept}
-use Rattle.resolve_cache_rules.specs.Cache.{Resolved, unchanged, miss, work_by, work, resolve}
-use Rattle.resolve_cache_rules.specs.Ready.{Wide, Ready, Small}
-use Rattle.resolve_cache_rules.proofs.Slots.{or_false, small_from}
+use Rattle.resolve_cache_rules.specs.Cache.{Resolved, unchanged, if_accepted, miss, work_by, work, resolve}
+use Rattle.resolve_cache_rules.specs.Ready.{Wide, Ready}
+use Rattle.resolve_cache_rules.proofs.Slots.{or_false}
 use Rattle.resolve_cache.specs.declared.ResolveError.{ResolveError}
 use Rattle.resolve_cache.specs.Answers.{resolve_refusal}
 use Rattle.resolve_cache.proofs.Refusals.{refusal-number}
-use Rattle.resolve_cache.specs.Deciding.{Absent, FirstOf, walking}
+use Rattle.resolve_cache.specs.Deciding.{Absent, FirstOf}
 
 -- 18 does not apply
 module _ (c : ResolveCache) (a : Area) (b : bad c a ≡ false) where
@@ -30,9 +30,6 @@ module _ (c : ResolveCache) (a : Area) (b : bad c a ≡ false) where
 
   pub good_ready : Wide c.capacity a → Ready c a
   good_ready r = record { any = omega (arith, eqb-false c.capacity 0 parts.0); fits = ltb-false c.capacity c.used rest.0; wide = r }
-
-  pub good_small : (n : ℕ) → n ≤ c.used → Small c.capacity a.keys n
-  good_small n h i k = small_from c.capacity a.keys 0 c.used rest.1 i (omega arith) (omega arith)
 
 -- the cache on a generation uses no more slots, and has the same capacity
 pub adopt-used : (g : Generation) (c : ResolveCache) → ((adopt g c).used ≤ c.used) × ((adopt g c).capacity ≡ c.capacity)
@@ -47,9 +44,6 @@ module _ (g : Generation) (c e : ResolveCache) (a : Area) (on : e ≡ adopt g c)
   pub ready_current : Ready c a → Ready e a
   ready_current r =
       rw on (record { any = omega (arith, r.any, (adopt-used g c).1); fits = omega (arith, r.fits, (adopt-used g c).0, (adopt-used g c).1); wide = rw (adopt-used g c).1 r.wide })
-
-  pub small_current : bad c a ≡ false → Small e.capacity a.keys e.used
-  small_current b = rw on (rw (adopt-used g c).1 (good_small c a b _ (adopt-used g c).0))
 
 -- the first slot that keeps a subject, by what is known of each
 module _ (c : ℕ) (keys subject : List ℕ) where
@@ -70,6 +64,13 @@ module _ (c : ℕ) (keys subject : List ℕ) where
           rw (others from (omega arith) later) (ih later (omega arith) here (λ j k l. others j (omega arith) l))
 
 module _ (c : ResolveCache) (a : Area) (s : Snapshot) (words subject out : List ℕ) where
+  -- what a walk leaves
+  abbrev pub walking : Resolved
+  walking =
+      if_accepted c a subject out (grammar false subject)
+      (pick (stands_in s words) (miss c a subject out (adopt s.generation c) (walk_of s words subject))
+      (unchanged c a subject out (answer 19 [])))
+
   abbrev whole : Resolved
   whole = resolve c a s words subject out
 
@@ -95,44 +96,47 @@ module _ (c : ResolveCache) (a : Area) (s : Snapshot) (words subject out : List 
 
         -- e is the cache on the standing table's generation
         module _ (stands : stands_in s words ≡ true) (e : ResolveCache) (on : e ≡ adopt s.generation c) where
+          same-capacity : e.capacity ≡ c.capacity
+          same-capacity = ap (λ d. d.capacity) on ∙ (adopt-used s.generation c).1
+
           full : work c a subject out (adopt s.generation c) (walk_of s words subject) ≡ whole
           unfolding resolve
           full = rw (← accepted, fits, good, stands)
 
-          works : (o : stated.Option ℕ) → find_from e.capacity a.keys subject 0 e.used ≡ o → work_by c a subject out o e (walk_of s words subject) ≡ whole
+          works : (o : stated.Option ℕ) → find_from c.capacity a.keys subject 0 e.used ≡ o → work_by c a subject out o e (walk_of s words subject) ≡ whole
           works o q =
-              ap (λ x. work_by c a subject out x e (walk_of s words subject)) (sym q)
+              ap (λ x. work_by c a subject out x e (walk_of s words subject)) (sym q ∙ ap (λ m. find_from m a.keys subject 0 e.used) (sym same-capacity))
               ∙ ap (λ d. work c a subject out d (walk_of s words subject)) on
               ∙ full
 
-          pub walks : FirstOf e.capacity a.keys subject 0 e.used None → walking c a s words subject out ≡ whole
+          pub walks : FirstOf c.capacity a.keys subject 0 e.used None → walking ≡ whole
           walks absent =
               rw (← accepted, stands)
               (subst (λ d. miss c a subject out d (walk_of s words subject) ≡ whole) on
-              (works none (absent-none e.capacity a.keys subject 0 e.used (λ i h k. absent i h (omega arith)))))
+              (works none (absent-none c.capacity a.keys subject 0 e.used (λ i h k. absent i h (omega arith)))))
 
           -- a hit at slot i, whose byte of the second list says the number of its targets
-          module _ (i : ℕ) (first : FirstOf e.capacity a.keys subject 0 e.used (Some i)) (small : key_length e.capacity a.keys i ≤ 256) where
-            found : find_from e.capacity a.keys subject 0 e.used ≡ some i
-            found = first-some e.capacity a.keys subject 0 e.used i (omega arith) (omega (arith, first.1)) first.2 first.3
+          module _ (i : ℕ) (first : FirstOf c.capacity a.keys subject 0 e.used (Some i)) (small : key_length c.capacity a.keys i ≤ 256) where
+            found : find_from c.capacity a.keys subject 0 e.used ≡ some i
+            found = first-some c.capacity a.keys subject 0 e.used i (omega arith) (omega (arith, first.1)) first.2 first.3
 
-            count-is : get_or a.keys (e.capacity + i) 0 ≡ target_count e.capacity a.keys i
-            count-is = omega (arith, small)
+            count-is : get_or a.keys (c.capacity + i) 0 ≡ target_count e.capacity a.keys i
+            count-is = rw same-capacity (omega (arith, small))
 
             by : ℕ → Resolved
             by count =
                 pick (ltb (length out) count) (unchanged c a subject out (answer 21 (count ∷ [])))
                 (record { says = in_kept (16 * i) count; cache = hit e; area = touch a i (ticked e).0; out = out })
 
-            hits : by (get_or a.keys (e.capacity + i) 0) ≡ whole
+            hits : by (get_or a.keys (c.capacity + i) 0) ≡ whole
             unfolding by
             hits = ap by count-is ∙ works (some i) found
 
-            pub hit-short : length out < get_or a.keys (e.capacity + i) 0 → unchanged c a subject out (answer 21 (get_or a.keys (e.capacity + i) 0 ∷ [])) ≡ whole
+            pub hit-short : length out < get_or a.keys (c.capacity + i) 0 → unchanged c a subject out (answer 21 (get_or a.keys (c.capacity + i) 0 ∷ [])) ≡ whole
             unfolding by
             hit-short h = rw lt-ltb at hits
 
-            pub hit-shown : get_or a.keys (e.capacity + i) 0 ≤ length out
-                → ◌≡◌ {A = Resolved} (record { says = in_kept (16 * i) (get_or a.keys (e.capacity + i) 0); cache = hit e; area = touch a i (ticked e).0; out = out }) whole
+            pub hit-shown : get_or a.keys (c.capacity + i) 0 ≤ length out
+                → ◌≡◌ {A = Resolved} (record { says = in_kept (16 * i) (get_or a.keys (c.capacity + i) 0); cache = hit e; area = touch a i (ticked e).0; out = out }) whole
             unfolding by
             hit-shown h = rw le-ltb at hits

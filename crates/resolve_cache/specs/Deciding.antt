@@ -1,17 +1,13 @@
 -- Only private contracts cite this file: what the steps of a resolve leave.
-use Rattle.std.specs.Prelude.{◌≡◌, ℕ, ◌≤◌, ◌<◌, true, false, List, [], Option, Some, None, Result}
+use Rattle.std.specs.Prelude.{◌≡◌, ℕ, ◌≤◌, ◌<◌, true, false, List, Option, Some, None, Result}
 use Rattle.subject_rules.specs.Choice.{pick}
-use Rattle.subject_rules.specs.Answers.{answer}
-use Rattle.subject_rules.specs.Grammar.{grammar}
-use Rattle.sublist_snapshot.specs.declared.Snapshot.{Snapshot}
-use Rattle.sublist_snapshot.specs.Snapshot.{stands_in, walk_of}
 use Rattle.resolve_cache_rules.specs.declared.ResolveCache.{ResolveCache}
 use Rattle.resolve_cache.specs.declared.Slots.{Slots}
 use Rattle.resolve_cache.specs.declared.ListPlace.{ListPlace}
 use Rattle.resolve_cache.specs.declared.ResolveError.{ResolveError}
 use Rattle.resolve_cache_rules.specs.Area.{Area, keep}
-use Rattle.resolve_cache_rules.specs.Cache.{keeps_at, place, adopt, ticked, walked, grown, qualifies}
-use Rattle.resolve_cache_rules.specs.Cache.{Resolved, unchanged, miss, if_accepted}
+use Rattle.resolve_cache_rules.specs.Cache.{keeps_at, place, ticked, walked, grown, qualifies}
+use Rattle.resolve_cache_rules.specs.Cache.{Resolved}
 use Rattle.resolve_cache.specs.Answers.{resolve_answer}
 
 -- no slot from one place up to another keeps the subject
@@ -42,15 +38,3 @@ leaving r c a out = record { says = resolve_answer r; cache = c; area = a; out =
 pub record Keeps (e : ResolveCache) (a : Area) (subject list : List ℕ) (c : ResolveCache) (after : Area) : Type 0 where
   pub cache : c ≡ pick (qualifies subject list) (grown e) (walked e)
   pub area : after ≡ pick (qualifies subject list) (keep e.capacity a (place e a) subject list (ticked e).0) a
-
-module _ (c : ResolveCache) (a : Area) (s : Snapshot) (words subject out : List ℕ) where
-  -- the cache on the standing table's generation
-  abbrev pub current : ResolveCache
-  current = adopt s.generation c
-
-  -- what a walk leaves
-  abbrev pub walking : Resolved
-  walking =
-      if_accepted c a subject out (grammar false subject)
-      (pick (stands_in s words) (miss c a subject out current (walk_of s words subject))
-      (unchanged c a subject out (answer 19 [])))

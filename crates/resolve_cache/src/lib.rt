@@ -4,7 +4,8 @@
 // less one; the number of targets; the mark, low byte and high byte) and then 256 bytes a slot, `kept` 16 targets.
 #![tactic(auto)]
 
-ghost use Rattle.std.specs.Prelude.{◌≡◌, ◌≢◌, ℕ, ◌+◌, ◌-◌, ◌*◌, ◌/◌, ◌<◌, ◌≤◌, false, length, min, slice_index};
+ghost use Rattle.std.specs.Prelude.{◌≡◌, ◌≢◌, ℕ, ◌+◌, ◌-◌, ◌*◌, ◌/◌, ◌<◌, ◌≤◌, true, false, length, min, slice_index};
+ghost use Rattle.std.specs.Prelude.{MatchOption};
 ghost use Rattle.sublist_walk_rules.specs.Walk.{part};
 ghost use Rattle.sublist_walk.specs.Answers.{match_refusal};
 ghost use Rattle.resolve_cache_rules.specs.Mark.{hash_from, mark};
@@ -16,7 +17,7 @@ ghost use Rattle.resolve_cache_rules.specs.Answers.{lent};
 ghost use Rattle.resolve_cache_rules.specs.Ready.{Wide, Ready, Accepted, Small};
 ghost use Rattle.resolve_cache.specs.declared.ResolveError.TheVariants.{Invalid};
 ghost use Rattle.resolve_cache.specs.Answers.{resolve_refusal, resolve_answer, left, list_of};
-ghost use Rattle.resolve_cache.specs.Deciding.{area_of, SameLists, Keeps, leaving, walking};
+ghost use Rattle.resolve_cache.specs.Deciding.{area_of, SameLists, Keeps, leaving};
 ghost use Rattle.resolve_cache.specs.Deciding.{FirstOf};
 
 use resolve_cache_rules::{KEY_BYTES, ResolveCache, SLOT_LISTS, SLOT_TARGETS, Tick};
@@ -142,19 +143,6 @@ fn part<'a>(words: &'a [u32], from: usize, count: usize) -> &'a [u32]
     &rest[..count.min(rest.len())]
 }
 
-// 18 on the slots: one of the first n has a key over 256 bytes or over 16 targets, so that its byte of the second list
-// is over 16. The fold has no other way out, and compiles to steps of sixteen bytes.
-fn has_bad_slot(keys: &[u8], capacity: usize, n: usize) -> bool
-    requires { (n ≤ capacity)
-        × (capacity ≤ 1024)
-        × (260 * capacity ≤ length keys.now) }
-    ensures { result ≡ bad_from capacity keys.now 0 n }
-{
-    keys[capacity..capacity + n]
-        .iter()
-        .fold(false, |bad, count| bad | (16 < *count))
-}
-
 // The hash of a text's words.
 fn word_hash(text: &[u8]) -> u64
     ensures { result ≡ hash_from text.now 0xcbf29ce484222325 0 ((length text.now + 7) / 8) }
@@ -175,21 +163,29 @@ fn mark_of(key: &[u8]) -> u16
 }
 
 impl<'a> Keys<'a> {
-    // The keys of so many slots in use.
-    fn new(bytes: &'a [u8], capacity: usize, used: usize) -> Keys<'a>
-        requires room { (used ≤ capacity)
+    // The keys of so many slots, unless one of them is bad: it has a key over 256 bytes or over 16 targets, so that its
+    // byte of the second list is over 16. The fold has no other way out, and compiles to steps of sixteen bytes.
+    fn new(bytes: &'a [u8], capacity: usize, used: usize) -> Option<Keys<'a>>
+        requires { (used ≤ capacity)
             × (capacity ≤ 1024)
             × (260 * capacity ≤ length bytes.now) }
-        requires small { Small capacity bytes.now used }
-        ensures { (result.bytes ≡ bytes.entry)
-            × (result.capacity ≡ capacity)
-            × (result.used ≡ used) }
+        ensures { MatchOption result (bad_from capacity bytes.now 0 used ≡ true)
+            (λ k. (bad_from capacity bytes.now 0 used ≡ false)
+            × (k.bytes.now ≡ bytes.now)
+            × (k.capacity ≡ capacity)
+            × (k.used ≡ used)) }
     {
-        Keys {
+        let bad = bytes[capacity..capacity + used]
+            .iter()
+            .fold(false, |bad, count| bad | (16 < *count));
+        if bad {
+            return None;
+        }
+        Some(Keys {
             bytes,
             capacity,
             used,
-        }
+        })
     }
 
     // Whether one of the 32 slots from a place on may have a mark.
@@ -223,28 +219,30 @@ impl<'a> Keys<'a> {
         subject::same_bytes(&self.bytes[start..end], subject)
     }
 
-    // The first slot of a run that keeps the list of a subject. A run without the mark is passed over.
+    // The first slot of a run that keeps the list of a subject, among n. A run without the mark is passed over.
     #[tactic(auto, using(crate::proofs::Marks::absent_in_run))]
-    fn find_in_run(&self, run: usize, sought: u16, subject: &[u8]) -> Option<usize>
-        requires inside { 32 * run < self.now.used }
+    fn find_in_run(&self, run: usize, n: usize, sought: u16, subject: &[u8]) -> Option<usize>
+        requires inside { (32 * run < n)
+            × (n ≤ self.now.used) }
         requires mark { sought ≡ mark subject.now }
         ensures { FirstOf self.now.capacity self.now.bytes.now subject.now
-            (32 * run) (min self.now.used (32 * run + 32)) result }
+            (32 * run) (min n (32 * run + 32)) result }
     {
         let from = RUN * run;
         if !self.any_marked(from, sought) {
             return None;
         }
-        (from..self.used.min(from + RUN)).find(|i| self.keeps(*i, sought, subject))
+        (from..n.min(from + RUN)).find(|i| self.keeps(*i, sought, subject))
     }
 
-    // The first slot that keeps the list of a subject, run by run.
-    fn find(&self, subject: &[u8]) -> Option<usize>
-        ensures { FirstOf self.now.capacity self.now.bytes.now subject.now 0 self.now.used result }
+    // The first of n slots that keeps the list of a subject, run by run.
+    fn find(&self, n: usize, subject: &[u8]) -> Option<usize>
+        requires { n ≤ self.now.used }
+        ensures { FirstOf self.now.capacity self.now.bytes.now subject.now 0 n result }
     {
         let sought = mark_of(subject);
-        for run in 0..self.used.div_ceil(RUN) {
-            if let Some(slot) = self.find_in_run(run, sought, subject) {
+        for run in 0..n.div_ceil(RUN) {
+            if let Some(slot) = self.find_in_run(run, n, sought, subject) {
                 return Some(slot);
             }
         }
@@ -273,7 +271,7 @@ fn oldest(stamps: &[u64], n: usize) -> usize
 fn adopt(cache: ResolveCache, generation: Generation) -> ResolveCache
     ensures { result ≡ adopt generation cache }
 {
-    if cache.generation.0 == generation.0 {
+    if cache.generation == generation {
         return cache;
     }
     ResolveCache {
@@ -359,23 +357,19 @@ impl Slots<'_> {
         resolve_cache_rules::is_short(capacity, self.stamps, self.keys, self.kept)
     }
 
-    // 18: capacity is 0, more slots are used than capacity, or a used slot is bad.
-    fn is_bad(&self, cache: ResolveCache) -> bool
+    // The keys in use, or none: 18, capacity is 0, more slots are used than capacity, or a used slot is bad.
+    fn keys_in_use(&self, cache: ResolveCache) -> Option<Keys<'_>>
         requires { Wide cache.capacity (area_of self.now) }
-        ensures { result ≡ bad cache (area_of self.now) }
+        ensures { MatchOption result (bad cache (area_of self.now) ≡ true)
+            (λ k. (bad cache (area_of self.now) ≡ false)
+            × (k.bytes.now ≡ self.now.keys.now)
+            × (k.capacity ≡ cache.capacity)
+            × (k.used ≡ cache.used)) }
     {
-        cache.capacity == 0
-            || cache.capacity < cache.used
-            || has_bad_slot(self.keys, cache.capacity, cache.used)
-    }
-
-    // The first slot that keeps the list of a subject.
-    fn find(&self, cache: ResolveCache, subject: &[u8]) -> Option<usize>
-        requires ready { Ready cache (area_of self.now) }
-        requires small { Small cache.capacity self.now.keys.now cache.used }
-        ensures { FirstOf cache.capacity self.now.keys.now subject.now 0 cache.used result }
-    {
-        Keys::new(self.keys, cache.capacity, cache.used).find(subject)
+        if cache.capacity == 0 || cache.capacity < cache.used {
+            return None;
+        }
+        Keys::new(self.keys, cache.capacity, cache.used)
     }
 
     // The slot that a new list goes to: the first unused one, or the one of smallest stamp.
@@ -410,28 +404,7 @@ impl Slots<'_> {
         grown(cache)
     }
 
-    // The standing table is walked into the output, for a subject that was parsed.
-    fn walk(
-        &mut self,
-        cache: &mut ResolveCache,
-        snapshot: Snapshot,
-        area: &[u32],
-        subject: &[u8],
-        out: &mut [u32],
-    ) -> Result<ListPlace, ResolveError>
-        requires ready { Ready cache.old (area_of self.old) }
-        requires accepted { Accepted subject.now }
-        ensures same { SameLists self.old self.new }
-        ensures leaves { leaving result cache.new (area_of self.new) out.new
-            ≡ walking cache.old (area_of self.old) snapshot area.now subject.now out.old }
-    {
-        let found = snapshot.match_parsed(area, subject, out)?;
-        let current = adopt(*cache, snapshot.generation());
-        *cache = self.keep_list(current, subject, &out[..found.count]);
-        Ok(ListPlace::Walked { count: found.count })
-    }
-
-    // What a resolve comes to: 1 to 9, 17, 18, 19 on the counts, then a hit (21) or a walk.
+    // What a resolve comes to: 1 to 9, 17, 18, 19 on the counts, then a hit (21), or a walk (19, 21) whose list is kept.
     fn look_up(
         &mut self,
         cache: &mut ResolveCache,
@@ -448,27 +421,27 @@ impl Slots<'_> {
         if self.is_short(cache.capacity) {
             return Err(ResolveError::CacheShort);
         }
-        if self.is_bad(*cache) {
+        let Some(in_use) = self.keys_in_use(*cache) else {
             return Err(ResolveError::BadSlot);
-        }
+        };
         if !snapshot.stands_in(area) {
             return Err(ResolveError::Damaged);
         }
         let current = adopt(*cache, snapshot.generation());
-        match self.find(current, subject) {
-            Some(slot) => {
-                let count = self.keys[current.capacity + slot] as usize;
-                if out.len() < count {
-                    return Err(ResolveError::OutShort(count));
-                }
-                self.stamps[slot] = next_tick(current).0;
-                *cache = hit(current);
-                Ok(ListPlace::Kept {
-                    from: SLOT_TARGETS * slot,
-                    count,
-                })
-            }
-            None => self.walk(cache, snapshot, area, subject, out),
+        let Some(slot) = in_use.find(current.used, subject) else {
+            let found = snapshot.match_parsed(area, subject, out)?;
+            *cache = self.keep_list(current, subject, &out[..found.count]);
+            return Ok(ListPlace::Walked { count: found.count });
+        };
+        let count = self.keys[cache.capacity + slot] as usize;
+        if out.len() < count {
+            return Err(ResolveError::OutShort(count));
         }
+        self.stamps[slot] = next_tick(current).0;
+        *cache = hit(current);
+        Ok(ListPlace::Kept {
+            from: SLOT_TARGETS * slot,
+            count,
+        })
     }
 }

@@ -40,6 +40,7 @@ impl ResolveCache {
     pub const DEFAULT_CAPACITY: usize = 1024;
 
     // A fresh cache of so many slots, one at the least, in the lent area.
+    // Kept: stamps, keys and kept are three parameters here and below, since the C interface lends them apart.
     #[tactic(auto, unfolding(crate::specs::Cache::with_capacity))]
     pub fn with_capacity(
         capacity: usize,

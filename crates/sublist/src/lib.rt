@@ -485,6 +485,7 @@ fn finish<F: EntryForm>(
     })
 }
 
+// Kept: the C interface lends a list, its store and the words of its table apart, here and at the two names below.
 // The table of a list of either form: 10, 12 and 13, 14, then the rest.
 fn build_list<F: EntryForm>(
     entries: &[F],

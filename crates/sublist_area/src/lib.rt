@@ -1,12 +1,13 @@
 // The nodes of a table in a lent area of words: looking up a child, making one.
 #![tactic(auto)]
 
-ghost use Rattle.std.specs.Prelude.{◌≡◌, ◌+◌, ◌*◌, ◌/◌, ◌<◌, ◌≤◌, ◌^◌, max, length};
+ghost use Rattle.std.specs.Prelude.{◌≡◌, ◌+◌, ◌*◌, ◌/◌, ◌<◌, ◌≤◌, ◌^◌, length};
 ghost use Rattle.sublist_area_rules.specs.Words.{words_per_node, key_of, hash_is, by_hash, seek, child_of};
 ghost use Rattle.sublist_area_rules.specs.Growing.{fresh, hash_of, added, child_or_new, rooted};
 
 use sublist_area_rules::{Child, ChildKey, PlaceError, Placed};
 
+// Kept: nodes stand in an area of words and name one another by number, since C lends the area and there is no heap.
 // The words that a node takes.
 pub const NODE_WORDS: usize = 16;
 
@@ -15,20 +16,6 @@ const MAX_NODES: usize = u32::MAX as usize;
 
 // How many values a word has.
 const WORD: u64 = 4294967296;
-
-// A word as a number.
-pub fn wide(x: u32) -> usize
-    ensures { result ≡ x }
-{
-    x as usize
-}
-
-// The larger of two numbers.
-pub fn larger(a: usize, b: usize) -> usize
-    ensures { result ≡ max a b }
-{
-    a.max(b)
-}
 
 // Whether node `at` has the hash.
 fn has_hash(node_words: &[u32], at: usize, hash: u64) -> bool

@@ -1,4 +1,3 @@
 pub mod Deciding
 pub mod Numbered
-pub mod Unflat
 pub mod Reading

@@ -1,22 +1,27 @@
--- Entries lent as plain numbers: how many there are, and that an insert on the numbers is one on the entries.
+-- Entries lent as plain numbers: how many there are, which one stands at a place, and that an insert on the numbers is
+-- one on the entries.
 --
 --   in_length       one entry for each whole three
+--   three_read      what the threes of the numbers hold at a place, zeros past the last, is the entry there
 --   put_entries     an entry put among the numbers is put among the entries
 --   numbers_mean    insert_numbers on the numbers is insert_into on the entries that they hold
 use mathlib.Core.Path.{◌≡◌, refl, sym, ◌∙◌, ap}
 use mathlib.Core.Bool.{Bool, true, false}
 use mathlib.Core.List.{List, [], ◌∷◌}
-use Prim.Native.Nat.{ℕ, zero, suc, ◌*◌, ◌/◌}
+use Prim.Native.Nat.{ℕ, zero, suc, ◌*◌, ◌/◌, ◌%◌}
 use native.Mathlib.Omega.{arith}
 use lib.Dec.{leb}
-use lib.ListN.{length, set}
+use lib.ListN.{length, get_or, set}
 use lib.Seq.{sets, set_out}
 use borrow.Author.Tests.{leb-true}
+use Rattle.std.proofs.Math.Nat.{mod-mod}
+use Rattle.std.specs.Simd.{first_chunks}
 use Rattle.subject_rules.specs.Choice.{pick}
 use Rattle.subject_rules.specs.Answers.{Answer, answer}
 use Rattle.sublist_tree.specs.Lists.{put}
 use Rattle.sublist_entries.specs.declared.Entry.{Entry}
 use Rattle.sublist_entries.specs.declared.ListState.{ListState}
+use Rattle.sublist_entries.specs.Entries.{with_word, entry_at}
 use Rattle.sublist_entries.specs.Inserting.{insert_says, appended, after_answer, InsertOutcome, insert_by, insert_into}
 use Rattle.sublist_entries.specs.Numbers.{entry_numbers, numbers_of, entries_in, put_entry, insert_numbers}
 
@@ -32,6 +37,25 @@ in_length [] = refl
 in_length (a ∷ []) = refl
 in_length (a ∷ b ∷ []) = refl
 in_length (a ∷ b ∷ c ∷ ws) = rw (third (length ws)) (ap suc (in_length ws))
+
+-- the entry of three numbers
+abbrev of_three : List ℕ → Entry
+of_three t = record { start = get_or t 0 0; length = get_or t 1 0; target = get_or t 2 0 }
+
+three_at : (ws : List ℕ) (i : ℕ)
+    → of_three (get_or (first_chunks 3 (length ws / 3) ws) i (0 ∷ 0 ∷ 0 ∷ [])) ≡ entry_at (entries_in ws) i
+three_at [] i = refl
+three_at (a ∷ []) i = refl
+three_at (a ∷ b ∷ []) i = refl
+three_at (a ∷ b ∷ c ∷ ws) zero = rw (third (length ws)) refl
+three_at (a ∷ b ∷ c ∷ ws) (suc i) = rw (third (length ws)) (three_at ws i)
+
+-- t is what they hold at place i
+pub three_read : (ws : List ℕ) (i : ℕ) (threes : List (List ℕ)) → threes ≡ first_chunks 3 (length ws / 3) ws
+    → (t : List ℕ) → t ≡ get_or threes i (0 ∷ 0 ∷ 0 ∷ [])
+    → with_word (record { start = get_or t 0 0; length = get_or t 1 0; target = get_or t 2 0 % 4294967296 })
+    ≡ with_word (entry_at (entries_in ws) i)
+three_read ws i threes e t q = rw mod-mod (ap with_word (rw (← e, ← q) at (three_at ws i)))
 
 -- the numbers of an entry written where those of entry i belong are entry i
 module _ (e : Entry) where

@@ -3,7 +3,7 @@
 // An entry is a record, or three plain numbers: start, length, target.
 #![tactic(auto)]
 
-ghost use Rattle.std.specs.Prelude.{◌≡◌, ◌<◌, List, ℕ, length, set};
+ghost use Rattle.std.specs.Prelude.{◌≡◌, List, ℕ, length, set};
 ghost use Rattle.sublist_tree.specs.Lists.{put};
 ghost use Rattle.sublist_entries.specs.Entries.{entry_at, with_word};
 ghost use Rattle.sublist_entries.specs.Inserting.{insert_says, appended, after_answer, insert_by, insert_into};
@@ -15,6 +15,7 @@ use subject::SubjectError;
 // The most entries that a list may have.
 pub const MAX_ENTRIES: usize = 2048;
 
+// Kept: C lends a list as plain numbers, and both forms have one trait below.
 // The plain numbers that an entry takes.
 pub const ENTRY_NUMBERS: usize = 3;
 
@@ -28,6 +29,13 @@ pub struct Entry {
     pub length: usize,
     pub target: u32,
 }
+
+// What stands past the last entry of a list.
+const NO_ENTRY: Entry = Entry {
+    start: 0,
+    length: 0,
+    target: 0,
+};
 
 // How many entries of a lent list and how many bytes of its text store are in use.
 #[derive(Clone, Copy)]
@@ -69,14 +77,12 @@ pub trait EntryForm: Copy {
     fn count(list: &[Self]) -> usize
         ensures { result ≡ length (entries list.now) };
 
-    // The entry at a place, its target as a word.
+    // The entry at a place, its target as a word; past the last the record of zeros.
     fn entry(list: &[Self], i: usize) -> Entry
-        requires { i < length (entries list.now) }
         ensures { with_word result ≡ with_word (entry_at (entries list.now) i) };
 
-    // An entry is put at a place.
+    // An entry is put at a place; where the list has no such place, nothing is.
     fn put(list: &mut [Self], i: usize, e: Entry)
-        requires { i < length (entries list.old) }
         ensures { list.new ≡ with_entry list.old i e };
 }
 
@@ -90,11 +96,13 @@ impl EntryForm for Entry {
     }
 
     fn entry(list: &[Entry], i: usize) -> Entry {
-        list[i]
+        list.get(i).copied().unwrap_or(NO_ENTRY)
     }
 
     fn put(list: &mut [Entry], i: usize, e: Entry) {
-        list[i] = e;
+        if i < list.len() {
+            list[i] = e;
+        }
     }
 }
 
@@ -108,13 +116,14 @@ impl EntryForm for usize {
         list.len() / ENTRY_NUMBERS
     }
 
-    #[tactic(auto, using(crate::proofs::Numbered::in_length))]
+    #[tactic(auto, using(crate::proofs::Numbered::three_read))]
     fn entry(list: &[usize], i: usize) -> Entry {
-        let at = ENTRY_NUMBERS * i;
+        let (threes, _) = list.as_chunks::<ENTRY_NUMBERS>();
+        let [start, length, target] = threes.get(i).copied().unwrap_or([0; ENTRY_NUMBERS]);
         Entry {
-            start: list[at],
-            length: list[at + 1],
-            target: (list[at + 2] % TARGETS) as u32,
+            start,
+            length,
+            target: (target % TARGETS) as u32,
         }
     }
 
@@ -165,6 +174,7 @@ fn place_text(
 }
 
 // A pattern's text is appended to the store, and its entry to a list of either form. A refusal changes neither.
+// Kept: the C interface lends a store, a pattern and a target apart, here and at the two names below.
 fn insert_entry<F: EntryForm>(
     list: ListState,
     entries: &mut [F],

@@ -1,7 +1,6 @@
 -- A match through the snapshot reads the two parts of its area: the words of the standing table's nodes and its targets, as far as the area goes.
-use Rattle.std.proofs.Common.{◌≡◌, ℕ, zero, suc, ◌-◌, ◌*◌, min, false, List, [], ◌∷◌, length, take, drop, Result, Ok, Err, sym, refl, ap, ◌∙◌, ⊎_elim, arith, drop_of_length-le, take_all}
+use Rattle.std.proofs.Common.{◌≡◌, ℕ, zero, suc, ◌*◌, min, false, List, [], ◌∷◌, length, take, drop, Result, Ok, Err, sym, refl, ap, ◌∙◌, ⊎_elim, arith, drop_of_length-le, take_all}
 use Rattle.std.proofs.lemmas.Bool.{cases_lt}
-use Rattle.std.proofs.lemmas.Slice.{between_to_end}
 use Rattle.subject.specs.declared.SubjectError.{SubjectError}
 use Rattle.subject_rules.specs.Answers.{Answer, answer, when_accepted}
 use Rattle.subject.specs.Answers.{refusal, parsed}
@@ -11,7 +10,7 @@ use Rattle.sublist_walk.specs.declared.TableMatch.{TableMatch}
 use Rattle.sublist_walk.specs.declared.MatchError.{MatchError}
 use Rattle.sublist_walk.specs.declared.MatchError.TheVariants.{Invalid, Damaged, OutShort}
 use Rattle.sublist_walk.proofs.Writing.{parsed-same, table_refused}
-use Rattle.subject_rules.specs.Outputs.{Outcome, outcome}
+use Rattle.subject_rules.specs.Outputs.{outcome}
 use Rattle.sublist_walk_rules.specs.Matching.{match_parsed}
 use Rattle.sublist_walk.specs.Answers.{match_refusal, match_answer}
 use Rattle.sublist_snapshot.specs.declared.Generation.{Generation}
@@ -41,29 +40,24 @@ refusal_stays g (Invalid e) out = stays g (refusal e) out (λ after. refused_sta
 refusal_stays g Damaged out = refl
 refusal_stays g (OutShort needed) out = refl
 
--- front words are the nodes', and of the rest size words the targets'
-module _ (s : Snapshot) (area : List ℕ) (front size : ℕ) (f : front ≡ min (s.nodes * 16) (length area))
-    (z : size ≡ min s.targets (length (take (length area - front) (drop front area)))) where
-  abbrev rest : List ℕ
-  rest = take (length area - front) (drop front area)
-
-  nodes-part : take front area ≡ nodes_in s.nodes area
-  nodes-part = ap (λ k. take k area) f ∙ take_min (s.nodes * 16) area
+-- the area is split behind `front` words, and of the rest `size` words are the targets'
+module _ (s : Snapshot) (area nodes rest : List ℕ) (front size : ℕ) (f : front ≡ min (s.nodes * 16) (length area)) (a : nodes ≡ take front area) (b : rest ≡ drop front area)
+    (z : size ≡ min s.targets (length rest)) where
+  nodes-part : nodes ≡ nodes_in s.nodes area
+  nodes-part = a ∙ ap (λ k. take k area) f ∙ take_min (s.nodes * 16) area
 
   targets-part : take size rest ≡ targets_in s.nodes s.targets area
-  targets-part =
-      ap (λ k. take k rest) z ∙ take_min s.targets rest
-      ∙ ap (take s.targets) (between_to_end area front (length area) (omega arith) ∙ ap (λ k. drop k area) f ∙ drop_min (s.nodes * 16) area)
+  targets-part = ap (λ k. take k rest) z ∙ take_min s.targets rest ∙ ap (take s.targets) (b ∙ ap (λ k. drop k area) f ∙ drop_min (s.nodes * 16) area)
 
   -- what a match on the two parts answers, with the generation
   module _ (subject out left : List ℕ) (r : Result TableMatch MatchError)
-      (e : outcome (match_answer r) left ≡ match_parsed s.nodes s.targets (take front area) (take size rest) subject out) where
+      (e : outcome (match_answer r) left ≡ match_parsed s.nodes s.targets nodes (take size rest) subject out) where
     through : with_generation s.generation (outcome (match_answer r) left) ≡ match_parsed_in s area subject out
     unfolding match_parsed_in
     through =
         ap (with_generation s.generation) (
         e
-        ∙ ap (λ a. match_parsed s.nodes s.targets a (take size rest) subject out) nodes-part
+        ∙ ap (λ x. match_parsed s.nodes s.targets x (take size rest) subject out) nodes-part
         ∙ ap (λ ts. match_parsed s.nodes s.targets (nodes_in s.nodes area) ts subject out) targets-part
         )
 
@@ -83,8 +77,8 @@ parsed_match s area subject out values e =
 
 -- a match by the subject's parse
 module _ (s : Snapshot) (area subject out : List ℕ) (text : Result ℕ SubjectError) (p : parsed text ≡ grammar false subject) where
-  pub match_accepted : (n : ℕ) → text ≡ Ok n → (x : Outcome) → x ≡ match_parsed_in s area subject out → x ≡ match_in s area subject out
-  match_accepted n t x e = e ∙ parsed_match s area subject out (n ∷ []) (sym p ∙ ap parsed t)
+  pub match_accepted : (n : ℕ) → text ≡ Ok n → match_parsed_in s area subject out ≡ match_in s area subject out
+  match_accepted n t = parsed_match s area subject out (n ∷ []) (sym p ∙ ap parsed t)
 
   pub match_refused : (e : SubjectError) → text ≡ Err e → outcome (refusal e) out ≡ match_in s area subject out
   unfolding match_in

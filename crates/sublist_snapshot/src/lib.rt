@@ -184,6 +184,7 @@ impl Snapshot {
 
     // The list of the targets that a subject matches in the standing table, written over the output's first places:
     // 1 to 9, then 19, then 21.
+    #[tactic(auto, using(crate::proofs::Fronts::match_refused))]
     pub fn match_into(
         self,
         area: &[u32],
@@ -198,6 +199,7 @@ impl Snapshot {
     }
 
     // The match of a subject that the caller has parsed: 1 for a text that no parse accepts, then 19, then 21.
+    #[tactic(auto, using(crate::proofs::Fronts::through_found, crate::proofs::Fronts::through_refused))]
     pub fn match_parsed(
         self,
         area: &[u32],
@@ -208,11 +210,11 @@ impl Snapshot {
             ≡ match_parsed_in self area.now subject.now out.old }
     {
         let front = self.nodes.saturating_mul(NODE_WORDS).min(area.len());
-        let rest = &area[front..];
+        let (node_words, rest) = area.split_at(front);
         let table = Table {
             nodes: self.nodes,
             targets: self.targets,
-            node_words: &area[..front],
+            node_words,
             target_words: &rest[..self.targets.min(rest.len())],
         };
         let found = sublist_walk::match_parsed(&table, subject, out)?;

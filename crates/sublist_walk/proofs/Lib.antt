@@ -1,7 +1,6 @@
 -- Laws of the walk over an area.
 pub mod Stores
-pub mod Pushes
-pub mod Levels
+pub mod Searches
 pub mod Cuts
 pub mod Visits
 pub mod Walks

@@ -1,9 +1,10 @@
 -- Runs of stores from the first place of a list on, as far as it goes.
-use Rattle.std.proofs.Common.{◌≡◌, ℕ, zero, suc, ◌-◌, min, List, [], ◌∷◌, ◌++◌, length, take, drop, refl, sym, ap, ◌∙◌, ⊎_elim, append-nil, zero-add, length-drop, drop_of_length-le, arith}
+use Rattle.std.proofs.Common.{◌≡◌, ℕ, zero, suc, ◌+◌, ◌-◌, ◌<◌, ◌≤◌, min, List, [], ◌∷◌, ◌++◌, length, get_or, take, drop, refl, sym, ap, ◌∙◌, ⊎_elim, append-nil, zero-add, take_all, length-take, length-drop, drop_of_length-le, arith}
 use lib.ListN.{set}
 use lib.Seq.{sets}
 use borrow.Rule.Slice.PartMut.{put_mid}
 use Rattle.std.proofs.lemmas.Bool.{cases_lt}
+use Rattle.std.proofs.lemmas.List.Edits.{paste_more}
 use Rattle.std.proofs.lemmas.Slice.{between_to_end}
 use Rattle.subject_rules.proofs.Stores.{sets-out, sets-append}
 
@@ -27,14 +28,24 @@ sets_least l vs k r e =
     (λ h. sets-out l r vs (omega arith) ∙ sym (sets-out l k vs (omega arith)))
     (cases_lt k (length l))
 
+-- a copy, one word more
+pub copied_more : (words out : List ℕ) (i : ℕ) → i < length words → i < length out → set (take i words ++ drop i out) i (get_or words i 0) ≡ take (i + 1) words ++ drop (i + 1) out
+copied_more words out i h k = simp zero-add at (paste_more out 0 words i 0 (omega arith) h)
+
 -- a copy of as much as there is room for
-pub front_stored : (n : ℕ) (words out : List ℕ) → n ≡ min (length words) (length out) → take n words ++ drop n out ≡ sets out 0 words
+front_stored : (n : ℕ) (words out : List ℕ) → n ≡ min (length words) (length out) → take n words ++ drop n out ≡ sets out 0 words
 front_stored zero [] out e = refl
 front_stored zero (w ∷ ws) [] e = sym (sets-out [] 0 (w ∷ ws) (omega arith))
 front_stored zero (w ∷ ws) (o ∷ os) e = absurd (omega arith)
 front_stored (suc n) [] out e = absurd (omega arith)
 front_stored (suc n) (w ∷ ws) [] e = absurd (omega arith)
 front_stored (suc n) (w ∷ ws) (o ∷ os) e = ap (λ xs. w ∷ xs) (front_stored n ws os (omega arith)) ∙ sym (sets_cons w os 0 ws)
+
+-- the same, as a loop over the n words ends
+pub all_copied : (n i : ℕ) (words out : List ℕ) → n ≡ min (length words) (length out) → length (take n words) ≤ i → i ≤ length (take n words) → take i (take n words) ++ drop i out ≡ sets out 0 words
+all_copied n i words out e f g =
+    let d : i ≡ n = omega (arith, length-take {A = ℕ}) in
+    rw (d, take_all n (take n words) (omega (arith, length-take {A = ℕ}))) (front_stored n words out e)
 
 -- a run us from the first place on, and then a run vs into what is left behind it, which was lent for that
 pub behind_stored : (l us vs now after : List ℕ) (r : ℕ) → r ≡ min (length now) (length us) → now ≡ sets l 0 us → after ≡ sets (take (length now - r) (drop r now)) 0 vs

@@ -95,9 +95,9 @@ module _ (a : List ℕ) (m : ℕ) (ts : List ℕ) (f i : ℕ) where
 module _ (k : ℕ) (a : List ℕ) (n m : ℕ) (ts : List ℕ) (h : ℕ) where
   -- one node, from a frontier with nothing listed: `joins` is what its children make of the frontier
   module _ (next : List ℕ) (i : ℕ) where
-    pub visit-outside : (why : Failure) → collect a m ts 6 i (level [] []) ≡ broken why → visit k a n m ts h (level next []) i ≡ broken why
+    pub visit_outside : (why : Failure) → collect a m ts 6 i (level [] []) ≡ broken why → visit k a n m ts h (level next []) i ≡ broken why
     unfolding visit push
-    visit-outside why e = rw (outside_too a m ts 6 i next [] why e)
+    visit_outside why e = rw (outside_too a m ts 6 i next [] why e)
 
     -- the literal child and the `*` child, as lookups find them
     module _ (first second : Child) (c1 : first ≡ literal_child a n i h) (c2 : second ≡ star_child a n i) (count : ℕ) (out after : List ℕ)
@@ -182,14 +182,16 @@ module _ (k : ℕ) (a : List ℕ) (n m : ℕ) (ts : List ℕ) (h : ℕ) where
     unfolding behind
     next_on next1 count1 r after p v = joined _ _ _ next next1 count count1 i 1 r out now after p w v (visits-next ∙ rw v.is)
 
-    pub next-failed : (why : Failure) → visit k a n m ts h (level next []) (get_or l i 0) ≡ broken why → visits k a n m ts h (level [] []) l ≡ broken why
+    pub next_failed : (why : Failure) → visit k a n m ts h (level next []) (get_or l i 0) ≡ broken why → visits k a n m ts h (level [] []) l ≡ broken why
     unfolding visits behind
-    next-failed why e =
+    next_failed why e =
         ap (visits k a n m ts h (level [] [])) (split_at l i 0 q)
         ∙ visits-append (level [] []) (take i l) (get_or l i 0 ∷ drop (suc i) l)
         ∙ ap (λ s. visits k a n m ts h (visit k a n m ts h s (get_or l i 0)) (drop (suc i) l)) w.is
         ∙ ap (λ s. visits k a n m ts h s (drop (suc i) l)) (visit_through next w.list (get_or l i 0))
         ∙ rw e (visits-failed why (drop (suc i) l))
+
+pub ruleset one_node = (visit_outside, visit_first, visit_second, visit_on)
 
 module _ (k : ℕ) (a : List ℕ) (n m : ℕ) (ts : List ℕ) where
   exact-append : (s : Level) (is js : List ℕ) → exact k a n m ts s (is ++ js) ≡ exact k a n m ts (exact k a n m ts s is) js
@@ -231,9 +233,9 @@ module _ (k : ℕ) (a : List ℕ) (n m : ℕ) (ts : List ℕ) where
         joined _ _ _ [] [] count count1 i 1 r out now after p w v
         (rw (add-one i, take-suc l i 0 q, exact-append (level [] []) (take i l) (get_or l i 0 ∷ []), w.is) (collect-new a m ts 4 (get_or l i 0) [] w.list v.list v.is))
 
-    pub exact-outside : (why : Failure) → collect a m ts 4 (get_or l i 0) (level [] []) ≡ broken why → exact k a n m ts (level [] []) l ≡ broken why
+    pub exact_outside : (why : Failure) → collect a m ts 4 (get_or l i 0) (level [] []) ≡ broken why → exact k a n m ts (level [] []) l ≡ broken why
     unfolding exact
-    exact-outside why e =
+    exact_outside why e =
         ap (exact k a n m ts (level [] [])) (split_at l i 0 q)
         ∙ exact-append (level [] []) (take i l) (get_or l i 0 ∷ drop (suc i) l)
         ∙ ap (λ s. exact k a n m ts (collect a m ts 4 (get_or l i 0) s) (drop (suc i) l)) w.is

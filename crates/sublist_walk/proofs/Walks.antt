@@ -114,3 +114,6 @@ module _ (k : ℕ) (a : List ℕ) (n m : ℕ) (ts : List ℕ) where
             most = let x = u.most in let y = v.most in let z = ap length some in omega arith;
             stored = behind_stored out u.list v.list now after r (rw u.counts at p) u.stored v.stored;
           }
+
+-- the loop's start and a turn
+pub ruleset turns = (hashes-next, at-root, goes_on)

@@ -1,7 +1,8 @@
 -- What the walks of a match, the counts and the subject's parse make of the call's outcome.
-use Rattle.std.proofs.Common.{◌≡◌, ℕ, ◌*◌, ◌≤◌, ◌<◌, Bool, true, false, eqb, ltb, leb, List, [], ◌∷◌, map, length, take, drop, Option, None, Some, Result, Ok, Err, refl, sym, ap, ◌∙◌, arith, lt-ltb, le-ltb, leb-true}
+use Rattle.std.proofs.Common.{◌≡◌, ℕ, ◌*◌, ◌≤◌, ◌<◌, Bool, true, false, eqb, ltb, leb, List, [], ◌∷◌, map, length, take, drop, replicate, Option, None, Some, Result, Ok, Err, refl, sym, ap, ◌∙◌, arith, lt-ltb, le-ltb, leb-true}
 use Rattle.std.proofs.Math.Option.{none}
-use lib.Seq.{sets, length-sets, take-append_seam}
+use Rattle.std.proofs.lemmas.List.{length-replicate}
+use lib.Seq.{sets, take-append_seam}
 use Rattle.std.specs.Option.{ok_or}
 use Rattle.subject_rules.specs.Choice.{pick, and}
 use Rattle.subject_rules.specs.Text.{tokens}
@@ -22,7 +23,7 @@ use Rattle.sublist_walk.proofs.Cuts.{walk_cut}
 use Rattle.sublist_walk.specs.declared.TableMatch.{TableMatch}
 use Rattle.sublist_walk.specs.declared.MatchError.{MatchError}
 use Rattle.sublist_walk.specs.declared.MatchError.TheVariants.{Damaged}
-use Rattle.sublist_walk.specs.Answers.{match_answer}
+use Rattle.sublist_walk.specs.Answers.{match_refusal, match_answer}
 use Rattle.sublist_walk.specs.Told.{Finds, Ends, Answers, Tries}
 
 -- a walk that finds a list no longer than the output
@@ -33,18 +34,19 @@ module _ (w : Walked) (m : TableMatch) (before list : List ℕ) (f : Finds w m.c
     says = rw f.is (rw (le-ltb (length out) (length f.list) (rw f.counts at h), s, sets_over f.list out (rw f.counts at h), f.counts));
   }
 
-  -- copied from where the walk wrote it
-  pub copied : m.count ≤ length list → after ≡ sets out 0 (take m.count list) → Answers (Ok m) out after w
-  copied fits s =
-      let l = f.list in
-      let same : take m.count list ≡ l =
-      rw (f.stored, f.counts, sets_over l before (omega (arith, ap length f.stored, length-sets before 0 l, f.counts))) (take-append_seam l (drop (length l) before)) in
-      listed (rw same at s)
-
   -- written by a second walk
   pub again : (r : Result TableMatch Failure) → Ends r out after w → Answers (Ok m) out after w
   again (Ok x) g = let same : g.list ≡ f.list = cc (f.is, g.is) in listed (rw same at g.stored)
   again (Err why) g = let d = f.is in let z : ◌≡◌ {A = ℕ} 0 1 = cc in absurd (omega arith)
+
+-- copied from where the walk wrote it
+pub copied : (w : Walked) (m : TableMatch) (size : ℕ) (list : List ℕ) → Finds w m.count m.peak (replicate size 0) list → (out after : List ℕ)
+    → m.count ≤ length out → m.count ≤ size → after ≡ sets out 0 (take m.count list) → Answers (Ok m) out after w
+copied w m size list f out after h fits s =
+    let l = f.list in
+    let same : take m.count list ≡ l =
+    rw (f.stored, f.counts, sets_over l (replicate size 0) (omega (arith, length-replicate {A = ℕ}, f.counts))) (take-append_seam l (drop (length l) (replicate size 0))) in
+    listed w m (replicate size 0) list f out h after (rw same at s)
 
 -- counts that fit
 counts_targets : (n m : ℕ) (a ts : List ℕ) → true ≡ counts_fit n m a ts → m ≤ length ts
@@ -79,22 +81,33 @@ module _ (n m : ℕ) (a ts subject out : List ℕ) where
       walked_whole k = walk_cut k a n m ts (map fnv (tokens subject)) (counts_targets n m a ts counted)
 
       -- narrow frontiers, none of which would pass the limit
-      pub parsed_narrow : {r : Result TableMatch MatchError} {after : List ℕ} → Answers r out after (walked 32) → outcome (match_answer r) after ≡ match_parsed n m a ts subject out
-      parsed_narrow v =
+      narrow_says : (r : Result TableMatch MatchError) (after : List ℕ) → Answers r out after (walked 32) → outcome (match_answer r) after ≡ match_parsed n m a ts subject out
+      narrow_says r after v =
           parsed_walked _
           (v.says
           ∙ ap (λ w. written w out)
           (sym (narrow 32 1024 (omega arith) a n (length (take m ts)) (take m ts) (map fnv (tokens subject)) v.fits) ∙ walked_whole 1024))
 
+      pub narrow_found : (x : TableMatch) (after : List ℕ) → Answers (Ok x) out after (walked 32) → outcome (answer 0 (x.count ∷ x.peak ∷ [])) after ≡ match_parsed n m a ts subject out
+      narrow_found x after v = narrow_says (Ok x) after v
+
+      pub narrow_refused : (e : MatchError) (after : List ℕ) → Answers (Err e) out after (walked 32) → outcome (match_refusal e) after ≡ match_parsed n m a ts subject out
+      narrow_refused e after v = narrow_says (Err e) after v
+
       -- the widest, which find the output as it was
       module _ (now : List ℕ) (same : now ≡ out) where
-        pub parsed_wide : {r : Result TableMatch MatchError} {after : List ℕ} → Answers r now after (walked 1024) → outcome (match_answer r) after ≡ match_parsed n m a ts subject out
-        parsed_wide v = parsed_walked _ (v.says ∙ ap (written (walked 1024)) same ∙ ap (λ w. written w out) (walked_whole 1024))
+        wide_says : (r : Result TableMatch MatchError) (after : List ℕ) → Answers r now after (walked 1024) → outcome (match_answer r) after ≡ match_parsed n m a ts subject out
+        wide_says r after v = parsed_walked _ (v.says ∙ ap (written (walked 1024)) same ∙ ap (λ w. written w out) (walked_whole 1024))
 
-        pub parsed_last : (found : Option TableMatch) (after : List ℕ) → Tries (Ok found) now after (walked 1024)
+        pub wide_refused : (e : MatchError) (after : List ℕ) → Answers (Err e) now after (walked 1024) → outcome (match_refusal e) after ≡ match_parsed n m a ts subject out
+        wide_refused e after v = wide_says (Err e) after v
+
+        pub wide_found : (found : Option TableMatch) (after : List ℕ) → Tries (Ok found) now after (walked 1024)
             → outcome (match_answer (ok_or found Damaged)) after ≡ match_parsed n m a ts subject out
-        parsed_last (Some x) after v = parsed_wide v
-        parsed_last None after v = parsed_walked _ (rw (v.1, same, ← walked_whole 1024, v.0))
+        wide_found (Some x) after v = wide_says (Ok x) after v
+        wide_found None after v = parsed_walked _ (rw (v.1, same, ← walked_whole 1024, v.0))
+
+pub ruleset stages = (parsed_long, parsed_outside, narrow_found, wide_found)
 
 -- 1 does not apply to an accepted text
 accepted-short : (subject values : List ℕ) → grammar false subject ≡ answer 0 values → ltb 4096 (length subject) ≡ false
@@ -118,5 +131,5 @@ module _ (n m : ℕ) (a ts subject out : List ℕ) (text : Result ℕ SubjectErr
   unfolding match_table
   table_refused e t = rw (← p) (refused_leaves text e t (refusal e) (refusal e) (refused_stands text e (refusal e) t) out _)
 
-  pub table_accepted : (c : ℕ) → text ≡ Ok c → (x : Outcome) → x ≡ match_parsed n m a ts subject out → x ≡ match_table n m a ts subject out
-  table_accepted c t x s = s ∙ parsed-same n m a ts subject out (c ∷ []) (sym p ∙ ap parsed t)
+  pub table_accepted : (c : ℕ) → text ≡ Ok c → match_parsed n m a ts subject out ≡ match_table n m a ts subject out
+  table_accepted c t = parsed-same n m a ts subject out (c ∷ []) (sym p ∙ ap parsed t)

@@ -133,29 +133,30 @@ impl<const LIMIT: usize> Frontier<LIMIT> {
     }
 
     // A child joins, unless it is there.
+    #[tactic(auto, unfolding(sublist_walk_rules::specs::Walk::push))]
     fn push(&mut self, child: Child) -> Result<(), Failure>
         ensures { Joins result self.new (push LIMIT (level self.old []) child) }
     {
-        match child {
-            Child::Damaged => Err(Failure::Damaged),
-            Child::Missing(_) => Ok(()),
-            Child::Node(id) => {
-                if stands(self.nodes(), id) {
-                    return Ok(());
-                }
-                if self.count == LIMIT {
-                    return Err(Failure::Wide);
-                }
-                self.nodes[self.count] = id;
-                self.count += 1;
-                Ok(())
-            }
+        if let Child::Damaged = child {
+            return Err(Failure::Damaged);
         }
+        let Child::Node(id) = child else {
+            return Ok(());
+        };
+        if stands(self.nodes(), id) {
+            return Ok(());
+        }
+        if self.count == LIMIT {
+            return Err(Failure::Wide);
+        }
+        self.nodes[self.count] = id;
+        self.count += 1;
+        Ok(())
     }
 }
 
 // Whether a node stands in a frontier. All are read: a loop with one way out compares several at once.
-#[tactic(auto, using(std::proofs::lemmas::List::Folds::list_any_more))]
+#[tactic(auto, using(crate::proofs::Searches::among_more))]
 fn stands(front: &[u32], id: u32) -> bool
     ensures { result ≡ among id front.now }
 {
@@ -186,6 +187,7 @@ fn copy_part(words: &[u32], out: &mut [u32])
 }
 
 // The targets that words `field` and `field` + 1 of a node say, start and count.
+#[tactic(auto, unfolding(sublist_walk_rules::specs::Walk::collect))]
 fn collect(table: &Counted<'_>, field: usize, node: u32, out: &mut [u32]) -> Result<usize, Failure>
     requires { field < 16 }
     ensures { Lists result [] out.old out.new 1 (collect_in table.now field node (level [] [])) }
@@ -201,6 +203,7 @@ fn collect(table: &Counted<'_>, field: usize, node: u32, out: &mut [u32]) -> Res
 }
 
 // One node of a frontier and a token's hash: its `>` targets, then its literal child, then its `*` child.
+#[tactic(auto, using(crate::proofs::Visits::one_node))]
 fn visit<const LIMIT: usize>(
     table: &Counted<'_>,
     hash: u64,
@@ -219,6 +222,7 @@ fn visit<const LIMIT: usize>(
 }
 
 // The nodes of a frontier in turn, with a token's hash: their children become the next one.
+#[tactic(auto, unfolding(sublist_walk_rules::specs::Walk::visits))]
 fn visit_front<const LIMIT: usize>(
     table: &Counted<'_>,
     hash: u64,
@@ -239,6 +243,7 @@ fn visit_front<const LIMIT: usize>(
 }
 
 // The exact targets of the nodes of a frontier.
+#[tactic(auto, unfolding(sublist_walk_rules::specs::Walk::exact))]
 fn collect_exact(table: &Counted<'_>, nodes: &[u32], out: &mut [u32]) -> Result<usize, Failure>
     requires { length nodes.now ≤ 1024 }
     ensures { Lists result [] out.old out.new 1024 (exact_in table.now (level [] []) nodes.now) }
@@ -253,6 +258,7 @@ fn collect_exact(table: &Counted<'_>, nodes: &[u32], out: &mut [u32]) -> Result<
 
 // The list that a subject collects, from the root alone: as much of it as the output holds is written there.
 // Two frontiers take turns as the one that stands and the next.
+#[tactic(auto, using(crate::proofs::Walks::turns))]
 fn walk<const LIMIT: usize>(
     table: &Counted<'_>,
     subject: &[u8],
@@ -285,8 +291,9 @@ fn walk<const LIMIT: usize>(
 
 // The match by a walk with frontiers of at most LIMIT nodes; None where one would pass that. A list of at most LIST
 // targets is copied to the output; a longer one is written there by a second walk, which finds the same.
+#[tactic(auto, using(crate::proofs::Writing::again))]
 fn match_within<const LIMIT: usize, const LIST: usize>(
-    table: &Counted<'_>,
+    counted: &Counted<'_>,
     subject: &[u8],
     out: &mut [u32],
 ) -> Result<Option<TableMatch>, TryError>
@@ -294,7 +301,7 @@ fn match_within<const LIMIT: usize, const LIST: usize>(
         × (LIMIT ≤ 1024)
         × (LIST ≤ 2048)
         × (length subject.now ≤ 4096) }
-    ensures { Tries result out.old out.new (walk_in LIMIT table.now subject.now) }
+    ensures { Tries result out.old out.new (walk_in LIMIT counted.now subject.now) }
 {
     let mut first = Frontier {
         nodes: [0; LIMIT],
@@ -305,7 +312,7 @@ fn match_within<const LIMIT: usize, const LIST: usize>(
         count: 0,
     };
     let mut list = [0; LIST];
-    let found = match walk(table, subject, &mut first, &mut second, &mut list) {
+    let found = match walk(counted, subject, &mut first, &mut second, &mut list) {
         Ok(found) => found,
         Err(Failure::Wide) => return Ok(None),
         Err(Failure::Damaged) => return Err(TryError::Damaged),
@@ -317,7 +324,7 @@ fn match_within<const LIMIT: usize, const LIST: usize>(
         copy_part(&list[..found.count], out);
         return Ok(Some(found));
     }
-    let _ = walk(table, subject, &mut first, &mut second, out);
+    let _ = walk(counted, subject, &mut first, &mut second, out);
     Ok(Some(found))
 }
 
@@ -333,7 +340,7 @@ pub fn counts_fit(table: &Table<'_>) -> bool
 
 // A match for a subject that the caller has parsed: 1, then 19, then 21.
 // Narrow frontiers come first; where one would pass its limit, all again within the widest.
-#[tactic(auto, using(crate::proofs::Writing::parsed_long, crate::proofs::Writing::parsed_outside))]
+#[tactic(auto, using(crate::proofs::Writing::stages))]
 pub fn match_parsed(
     table: &Table<'_>,
     subject: &[u8],
@@ -364,6 +371,7 @@ pub fn match_parsed(
 
 // The list of the targets that a subject matches in a table, written over the first places of the output:
 // 1 to 9, then 19, then 21.
+#[tactic(auto, using(crate::proofs::Writing::table_refused, crate::proofs::Writing::table_accepted))]
 pub fn match_table(
     table: &Table<'_>,
     subject: &[u8],

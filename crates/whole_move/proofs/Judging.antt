@@ -1,12 +1,12 @@
 -- What a match with an output of one place says of its subject's verdict.
 use Prim.Native.Nat.{ℕ, ◌≤◌}
 use native.Mathlib.Omega.{arith}
-use mathlib.Core.Path.{◌≡◌, refl, ◌∙◌, ap}
+use mathlib.Core.Path.{◌≡◌, refl, sym, ◌∙◌, ap}
 use mathlib.Core.Bool.{Bool, true, false}
 use mathlib.Core.List.{List, [], ◌∷◌}
 use lib.Dec.{ltb}
 use lib.ListN.{length, take, drop, length-append}
-use lib.Seq.{take-append_seam}
+use lib.Seq.{take-append_seam, length-take-le}
 use borrow.Author.Tests.{ltb-true}
 use Rattle.std.proofs.Common.{Result, Ok, Err}
 use Rattle.subject.specs.declared.SubjectError.{SubjectError}
@@ -58,19 +58,30 @@ module _ (s : Snapshot) (area subject out after : List ℕ) (stands : stands_in 
   abbrev finds : Bool → List ℕ → ℕ → Outcome
   finds b list peak = with_generation s.generation (pick b (outcome (answer 21 (length list ∷ [])) out) (outcome (answer 0 (length list ∷ peak ∷ [])) (over list out)))
 
-  pub judged-listed : (count peak n : ℕ) → a ≡ answer 0 (count ∷ peak ∷ n ∷ []) → (count ≤ length after) × Verdict (walk_of s area subject) (single_home (take count after))
-  judged-listed count peak n h = go (walk_of s area subject) (rw h at by_walk)
-    where
-      go : (w : Walked) → outcome (answer 0 (count ∷ peak ∷ n ∷ [])) after ≡ with_generation s.generation (written w out) → (count ≤ length after) × Verdict w (single_home (take count after))
-      go (failed why) q = let z : ◌≡◌ {A = ℕ} 0 19 = cc in absurd (omega arith)
-      go (found list p) q = ends (ltb (length out) (length list)) q
-        where
-          ends : (b : Bool) → outcome (answer 0 (count ∷ peak ∷ n ∷ [])) after ≡ finds b list p → (count ≤ length after) × Verdict (found list p) (single_home (take count after))
-          ends true q = let z : ◌≡◌ {A = ℕ} 0 21 = cc in absurd (omega arith)
-          ends false q =
-              let counted : count ≡ length list = cc in
-              let left : after ≡ over list out = cc in
-              (rw (counted, left, length-append list (drop (length list) out)) (omega arith), rw (counted, left, take-append_seam list (drop (length list) out)))
+  -- a list, which is at the start of the output
+  module _ (count peak n : ℕ) (h : a ≡ answer 0 (count ∷ peak ∷ n ∷ [])) where
+    listed : (count ≤ length after) × Verdict (walk_of s area subject) (single_home (take count after))
+    listed = go (walk_of s area subject) (rw h at by_walk)
+      where
+        go : (w : Walked) → outcome (answer 0 (count ∷ peak ∷ n ∷ [])) after ≡ with_generation s.generation (written w out) → (count ≤ length after) × Verdict w (single_home (take count after))
+        go (failed why) q = let z : ◌≡◌ {A = ℕ} 0 19 = cc in absurd (omega arith)
+        go (found list p) q = ends (ltb (length out) (length list)) q
+          where
+            ends : (b : Bool) → outcome (answer 0 (count ∷ peak ∷ n ∷ [])) after ≡ finds b list p → (count ≤ length after) × Verdict (found list p) (single_home (take count after))
+            ends true q = let z : ◌≡◌ {A = ℕ} 0 21 = cc in absurd (omega arith)
+            ends false q =
+                let counted : count ≡ length list = cc in
+                let left : after ≡ over list out = cc in
+                (rw (counted, left, length-append list (drop (length list) out)) (omega arith), rw (counted, left, take-append_seam list (drop (length list) out)))
+
+    pub listed-count : count ≤ length after
+    listed-count = listed.0
+
+    pub listed-taken : count ≡ length (take count after)
+    listed-taken = sym (length-take-le count after listed.0)
+
+    pub judged-listed : Verdict (walk_of s area subject) (single_home (take count after))
+    judged-listed = listed.1
 
   -- a list for which one place is too little counts by its length
   pub judged-short : (matched : ℕ) → a ≡ answer 21 (matched ∷ []) → length out ≡ 1 → Verdict (walk_of s area subject) (Ambiguous matched)
@@ -105,3 +116,6 @@ pub judged-invalid : (s : Snapshot) (area subject out after : List ℕ) → stan
 judged-invalid s area subject out after stands accepted e q =
     let n = refusal-number e in
     judged-down s area subject out after stands accepted (refusal e) q n.0 (omega arith)
+
+-- each way
+pub ruleset judged = (listed-count, listed-taken, judged-listed, judged-short, judged-down, judged-invalid)

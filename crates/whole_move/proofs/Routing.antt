@@ -9,7 +9,7 @@ use Rattle.whole_move.specs.declared.MoveError.{MoveError}
 use Rattle.whole_move.specs.declared.MoveError.TheVariants.{Damaged}
 use Rattle.whole_move.specs.Answers.{move_refusal}
 use Rattle.whole_move.specs.Told.{span_of, verdict_of}
-use Rattle.whole_move.proofs.Sound.{add_sub}
+use Rattle.whole_move.proofs.Sound.{add_sub, sound-accepted}
 
 -- what is left of the verdicts, behind the targets gathered
 abbrev pub behind : List ℕ → Routes → Routes
@@ -50,3 +50,6 @@ module _ (walk : List ℕ → Walked) (bytes : List ℕ) (spans : List (List ℕ
         go : (w : Walked) → Ok v ≡ verdict_of w → behind ts (on_walk i w rest) ≡ x → ended (stopped i v) ≡ x
         go (failed f) j s = let z : ◌≡◌ {A = ℕ} 0 1 = cc in absurd (omega arith)
         go (found list peak) j s = let z : v ≡ single_home list = cc in ends v n (rw z s)
+
+-- each way through a turn
+pub ruleset turns = (sound-accepted, routes-damaged, routes-stopped)

@@ -1,5 +1,5 @@
 -- Subjects none of which is refused: the one at a place lies in the bytes and is accepted, and so are those behind it.
-use Rattle.std.proofs.Common.{◌≡◌, ℕ, ◌+◌, ◌-◌, ◌<◌, ◌≤◌, List, [], length, map, get_or, take, drop, refl, add-one, drop-cons, arith}
+use Rattle.std.proofs.Common.{◌≡◌, ℕ, ◌+◌, ◌-◌, ◌<◌, List, [], length, map, get_or, take, drop, refl, add-one, drop-cons, arith}
 use Rattle.std.proofs.Math.Option.{Option, none, some}
 use Rattle.subject_rules.specs.Answers.{Answer}
 use Rattle.subject_rules.specs.Grammar.{first_of}
@@ -25,11 +25,5 @@ module _ (bytes : List ℕ) (spans : List (List ℕ)) (i : ℕ) (h : i < length 
   sound : Sound bytes (span_of here)
   sound = passes_sound bytes i (span_of here) both.0
 
-  pub sound-inside : get_or here 0 0 + get_or here 1 0 ≤ length bytes
-  sound-inside = sound.inside
-
   pub sound-accepted : Accepted (take (get_or here 0 0 + get_or here 1 0 - get_or here 0 0) (drop (get_or here 0 0) bytes))
   sound-accepted = rw (add_sub (get_or here 0 0) (get_or here 1 0)) (record { values = sound.values; says = sound.accepted })
-
-  pub sound_on : bad_subjects bytes (i + 1) (map span_of (drop (i + 1) spans)) ≡ none
-  sound_on = both.1

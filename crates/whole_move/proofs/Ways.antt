@@ -1,15 +1,17 @@
 -- What each way through a move makes of `whole_move`.
-use Rattle.std.proofs.Common.{◌≡◌, ℕ, suc, ◌/◌, ◌≤◌, ◌<◌, true, false, List, [], ◌∷◌, length, map, Option, Result, Ok, Err, refl, sym, ◌∙◌, ap, arith, lt-ltb, le-ltb}
+use Rattle.std.proofs.Common.{◌≡◌, ℕ, suc, ◌/◌, ◌≤◌, ◌<◌, true, false, List, [], ◌∷◌, ◌++◌, length, map, take, drop, Option, None, Some, Result, Ok, Err, refl, sym, ◌∙◌, ap, arith, lt-ltb, le-ltb}
 use Rattle.std.specs.Simd.{first_chunks}
-use Rattle.std.proofs.lemmas.List.{length-map}
+use Rattle.std.proofs.lemmas.List.{length-map, length-take-le}
+use Rattle.std.proofs.Math.Option.{none, some}
 use Rattle.sublist_snapshot.specs.declared.Snapshot.{Snapshot}
 use Rattle.sublist_snapshot.specs.Snapshot.{stands_in, walk_of}
 use Rattle.binding.specs.declared.Resolution.{Resolution}
 use Rattle.whole_move_rules.specs.Move.{spans_in, text_at, bad_subjects, routes, written, whole_move}
+use Rattle.whole_move.specs.declared.WholeMove.TheVariants.{Routed, Stopped}
 use Rattle.whole_move.specs.declared.MoveError.{MoveError}
-use Rattle.whole_move.specs.declared.MoveError.TheVariants.{SetTooLarge, Damaged}
-use Rattle.whole_move.specs.Answers.{moved}
-use Rattle.whole_move.specs.Told.{span_of, refused, told}
+use Rattle.whole_move.specs.declared.MoveError.TheVariants.{SetTooLarge, Damaged, OutShort}
+use Rattle.whole_move.specs.Answers.{move_refusal, moved}
+use Rattle.whole_move.specs.Told.{span_of, told}
 
 -- the pairs that numbers make are the spans that they hold
 listed : (ws : List ℕ) → map span_of (first_chunks 2 (length ws / 2) ws) ≡ spans_in ws
@@ -29,20 +31,43 @@ module _ (s : Snapshot) (area bytes ws : List ℕ) (spans : List (List ℕ)) (fr
   unfolding whole_move
   move_large h = rw (size, lt-ltb 64 (length spans) h)
 
-  module _ (few : length spans ≤ 64) (c : Result (Unit {0}) MoveError) (checked : refused c ≡ bad_subjects bytes 0 (map span_of spans)) where
+  module _ (few : length spans ≤ 64) where
     -- 12, or 1 to 9
-    pub move_refused : (why : MoveError) → c ≡ Err why → moved (Err why) out ≡ whole_move s area bytes (spans_in ws) out
+    pub move_refused : (why : MoveError) → some (move_refusal why) ≡ bad_subjects bytes 0 (map span_of spans) → moved (Err why) out ≡ whole_move s area bytes (spans_in ws) out
     unfolding whole_move
-    move_refused why k = rw (size, le-ltb 64 (length spans) few, ← held, ← checked, k)
+    move_refused why bad = rw (size, le-ltb 64 (length spans) few, ← held, ← bad)
 
-    module _ {u : Unit {0}} (sound : c ≡ Ok u) where
+    module _ (sound : none ≡ bad_subjects bytes 0 (map span_of spans)) where
       -- 19 on the counts
       pub move_damaged : stands_in s area ≡ false → moved (Err Damaged) out ≡ whole_move s area bytes (spans_in ws) out
       unfolding whole_move
-      move_damaged f = rw (size, le-ltb 64 (length spans) few, ← held, ← checked, sound, f)
+      move_damaged f = rw (size, le-ltb 64 (length spans) few, ← held, ← sound, f)
 
-      -- r is what the verdicts came to, and kept the targets gathered
-      pub move_told : stands_in s area ≡ true → (r : Result (Option (ℕ × Resolution)) MoveError) (kept : List ℕ)
-          → told r kept ≡ routes (walk_of s area) 0 (map (text_at bytes) (map span_of spans)) → written (told r kept) out ≡ whole_move s area bytes (spans_in ws) out
-      unfolding whole_move
-      move_told stands r kept e = rw (size, le-ltb 64 (length spans) few, ← held, ← checked, sound, stands, e)
+      -- r is what the verdicts came to, with the targets gathered at the front of ts
+      module _ (stands : stands_in s area ≡ true) (ts : List ℕ) (r : Result (Option (ℕ × Resolution)) MoveError)
+          (e : told r (take (length spans) ts) ≡ routes (walk_of s area) 0 (map (text_at bytes) (map span_of spans))) where
+        move_told : written (told r (take (length spans) ts)) out ≡ whole_move s area bytes (spans_in ws) out
+        unfolding whole_move
+        move_told = rw (size, le-ltb 64 (length spans) few, ← held, ← sound, stands, e)
+
+        -- 19 of a walk
+        pub move_failed : (why : MoveError) → r ≡ Err why → moved (Err why) out ≡ whole_move s area bytes (spans_in ws) out
+        move_failed why k = rw k at move_told
+
+        module _ (stop : Option (ℕ × Resolution)) (k : r ≡ Ok stop) where
+          pub move_stopped : (p : ℕ × Resolution) → stop ≡ Some p → moved (Ok (Stopped p.0 p.1)) out ≡ whole_move s area bytes (spans_in ws) out
+          move_stopped p h = rw (k, h) at move_told
+
+          module _ (all : stop ≡ None) (room : length spans ≤ length ts) where
+            counted : length (take (length spans) ts) ≡ length spans
+            counted = length-take-le (length spans) ts room
+
+            -- 21
+            pub move_short : length out < length spans → moved (Err (OutShort (length spans))) out ≡ whole_move s area bytes (spans_in ws) out
+            move_short h = rw (k, all, counted, lt-ltb (length out) (length spans) h) at move_told
+
+            pub move_routed : length spans ≤ length out → moved (Ok (Routed (length spans))) (take (length spans) ts ++ drop (length spans) out) ≡ whole_move s area bytes (spans_in ws) out
+            move_routed h = rw (k, all, counted, le-ltb (length out) (length spans) h) at move_told
+
+-- each way
+pub ruleset ways = (move_large, move_refused, move_damaged, move_failed, move_stopped, move_short, move_routed)

@@ -55,6 +55,7 @@ struct Standing<'a> {
 
 impl Standing<'_> {
     // The verdict on an accepted subject. An output of one place is enough: a longer list counts only by its length.
+    #[tactic(auto, using(crate::proofs::Judging::judged))]
     fn verdict(&self, subject: &[u8]) -> Result<Resolution, MoveError>
         requires { Accepted subject.now }
         ensures { result ≡ verdict_of (walk_of self.now.snapshot self.now.area.now subject.now) }
@@ -71,6 +72,7 @@ impl Standing<'_> {
 
     // The subjects in turn, each Routed one's target put in its place, up to the first that is not Routed, which is
     // told by its place and its verdict.
+    #[tactic(auto, using(crate::proofs::Routing::turns))]
     fn route(
         &self,
         subjects: &Subjects<'_>,
@@ -117,6 +119,7 @@ fn check_subjects(bytes: &[u8], spans: &[[usize; 2]]) -> Result<(), MoveError>
 // Each subject's Routed target, in list order, over the first places of the output; or the first subject that is not
 // Routed. Two numbers a subject say where it lies in the bytes, start and length; a number left over counts for none.
 // 22; subject by subject 12 or 1 to 9; 19; the verdicts; 21. The output is as it was unless every target is written.
+#[tactic(auto, using(crate::proofs::Ways::ways))]
 pub fn whole_move(
     snapshot: Snapshot,
     area: &[u32],

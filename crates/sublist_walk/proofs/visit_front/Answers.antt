@@ -1,17 +1,12 @@
 -- `sublist_walk::visit_front` meets its contract. Assumes nothing.
 use Rattle.std.proofs.lemmas.Result.{err_from_is_err_and}
-use Rattle.sublist_walk_rules.specs.Walk.{visits}
-use Rattle.sublist_walk.proofs.Visits.{listed_none, next_on, next-failed}
+use Rattle.sublist_walk.proofs.Visits.{next_on, next_failed}
 use Rattle.sublist_walk.proofs.visit_front.Goals as goal
-
-pub loop-node-init : goal.loop-node-init
-unfolding visits
-loop-node-init g c = rw c.clear.ensures (listed_none c.args.out.now)
 
 pub returns-in_err-count : goal.returns-in_err-count
 returns-in_err-count g c =
     let p = err_from_is_err_and c.from_residual.result c.from_residual.ensures.1 in
-    rw (p.1, p.2) (next-failed _ _ _ _ _ _ _ _ _ _ _ _ c.loop-node.invariant c.loop-node-test.true _ c.in_err-count.ensures)
+    rw (p.1, p.2) (next_failed _ _ _ _ _ _ _ _ _ _ _ _ c.loop-node.invariant c.loop-node-test.true _ c.in_err-count.ensures)
 
 pub loop-node-preserved : goal.loop-node-preserved
 loop-node-preserved g c =

@@ -1,19 +1,11 @@
 -- `sublist_walk::walk` meets its contract. Assumes nothing.
-use Rattle.std.proofs.Common.{◌≡◌, map, sym, ap, ◌∙◌}
+use Rattle.std.proofs.Common.{map, sym, ap, ◌∙◌}
 use borrow.Author.Tests.{eqb-true}
 use Rattle.std.proofs.lemmas.List.{nil_from_length}
 use Rattle.std.proofs.lemmas.Result.{err_from_is_err_and}
-use Rattle.subject.specs.Reading.{tokens_from}
-use Rattle.subject_rules.specs.Text.{tokens}
 use Rattle.subject_rules.specs.Fnv.{fnv}
-use Rattle.sublist_walk.proofs.Walks.{hashes-next, at-root, stops, ends-failed, ends_found, goes_wrong, goes_on}
+use Rattle.sublist_walk.proofs.Walks.{hashes-next, stops, ends-failed, ends_found, goes_wrong, goes_on}
 use Rattle.sublist_walk.proofs.walk.Goals as goal
-
-pub loop-token-init : goal.loop-token-init
-loop-token-init g c =
-    let left : tokens_from c.into_iter-token-iterator.result.text.now c.into_iter-token-iterator.result.at ≡ tokens c.args.subject.now =
-    rw c.into_iter-token-iterator.ensures.into_iter_gives c.new-token-items.ensures.whole in
-    rw (left, c.restart.ensures) (at-root _ _ _ _ _ c.args.subject.now c.args.out.now c.requires)
 
 pub returns-in_err-count : goal.returns-in_err-count
 returns-in_err-count g c =
@@ -28,13 +20,6 @@ returns-then-is_empty g c =
     let u = goes_on _ _ _ _ _ _ _ _ _ _ _ _ c.loop-token.invariant _ _ some _ _ _ _ _ c.min-listed.ensures v (rw c.nodes-in-loop-token.ensures.nodes at c.max-peak.ensures) in
     let none = eqb-true _ _ (sym (rw c.nodes-in-loop-token-2.ensures.nodes at c.is_empty.ensures) ∙ c.if-is_empty.true) in
     stops _ _ _ _ _ _ _ _ _ _ _ _ u (nil_from_length c.visit_front.new.to none)
-
-pub loop-token-preserved : goal.loop-token-preserved
-loop-token-preserved g c =
-    let some = hashes-next _ _ _ _ c.in-Some.ensures.steps c.token_hash-hash.ensures in
-    let v = rw c.nodes.ensures.nodes at c.in_ok-count.ensures in
-    let u = goes_on _ _ _ _ _ _ _ _ _ _ _ _ c.loop-token.invariant _ _ some _ _ _ _ _ c.min-listed.ensures v (rw c.nodes-in-loop-token.ensures.nodes at c.max-peak.ensures) in
-    rw c.swap.ensures.x_after u
 
 pub returns-in_err-count-2 : goal.returns-in_err-count-2
 returns-in_err-count-2 g c =

@@ -5,4 +5,4 @@ use Rattle.resolve_cache.specs.Deciding.{Absent}
 use Rattle.resolve_cache.proofs.Keys.find.Given as goal
 
 abbrev pub invariant-loop-run : goal.invariant-loop-run
-invariant-loop-run l = Absent l.self.capacity l.self.bytes.now l.subject 0 (min l.self.used (32 * l.run))
+invariant-loop-run l = Absent l.self.capacity l.self.bytes.now l.subject 0 (min l.n (32 * l.run))
