@@ -21,6 +21,7 @@ use Rattle.sublist_entries.specs.Entries.{text_of, read_from}
 use Rattle.sublist_rules.specs.Building.{invalid, bad_entry, bad_entries, needed, worst_of as worst_in, build_says}
 use Rattle.sublist_rules.specs.Passes.{lines_in, settled, laid_at, laid, filled}
 use Rattle.sublist_rules.specs.Leaving.{build_leaves}
+use Rattle.sublist_rules.proofs.AcceptedEntries.{first_none}
 use Rattle.sublist_snapshot.specs.Snapshot.{Table, empty_table}
 use Rattle.binding.specs.Demand.{worst_of, holding, entries_refused, BuildRight}
 use Rattle.binding.specs.Built.{BuiltFrom}
@@ -84,12 +85,9 @@ entry-accepted store index e q = go (ltb (length store) (e.start + e.length)) (g
 
 entries-accepted : (store : List ℕ) (index : ℕ) (es : List Entry) → bad_entries store index es ≡ none → All Accepted (read_from store es)
 entries-accepted store index [] q = tt
-entries-accepted store index (e ∷ es) q = go (bad_entry store index e) refl q (entries-accepted store (index + 1) es)
-  where
-    go : (o : Option Answer) → bad_entry store index e ≡ o → first_of o (bad_entries store (index + 1) es) ≡ none
-        → (bad_entries store (index + 1) es ≡ none → All Accepted (read_from store es)) → All Accepted (read_from store (e ∷ es))
-    go none p q ih = (entry-accepted store index e p, ih q)
-    go (some a) p q ih = absurd (cc)
+entries-accepted store index (e ∷ es) q =
+    let both = first_none (bad_entry store index e) (bad_entries store (index + 1) es) q in
+    (entry-accepted store index e both.0, entries-accepted store (index + 1) es both.1)
 
 -- an accepted build's entries are accepted, and its worst case is at most 1,024
 build-accepted : (list : List Entry) (store : List ℕ) (room places g : ℕ) (values : List ℕ) → build_says list store room places g ≡ answer 0 values

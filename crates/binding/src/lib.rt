@@ -71,6 +71,7 @@ pub fn single_home(matched: &[u32]) -> Resolution
 
 // The verdict on the list that a match through the snapshot writes over the first places of the output: 1 to 9, then
 // 19, then 21.
+#[tactic(auto, using(crate::proofs::Judging::match_down, crate::proofs::Judging::match_judged))]
 pub fn resolve_single_home(
     snapshot: Snapshot,
     area: &[u32],

@@ -18,6 +18,10 @@ use Rattle.sublist_original.specs.Original.{Ok, Std}
 use Rattle.binding_original.specs.Original.{SublistSnapshot, CacheEntry, HashMap, Iter, ResolveCache, Each, get, refresh, remove, guarded, without, evict_if_full, hit, miss, looked_up, resolve_with, wrapping_add}
 use Rattle.binding_original.proofs.Stamping.{walked_by, Walks}
 
+-- a key and its entry
+abbrev pub Pair : Type 0
+Pair = List ℕ × CacheEntry ℕ
+
 pub equal-sound : (xs ys : List ℕ) → equal xs ys ≡ true → xs ≡ ys
 equal-sound [] [] e = refl
 equal-sound [] (y ∷ ys) e = absurd (cc)
@@ -30,7 +34,7 @@ equal-sound (x ∷ xs) (y ∷ ys) e = go (eqb x y) refl e (equal-sound xs ys)
 
 -- the entries under a key are what a function gives for it
 module _ (due : List ℕ → List ℕ) where
-  abbrev pub Kept : List ℕ × CacheEntry ℕ → Type 0
+  abbrev pub Kept : Pair → Type 0
   Kept x = x.1.targets ≡ due x.0
 
   get-kept : (entries : HashMap ℕ) (key : List ℕ) (e : CacheEntry ℕ) → Each Kept entries → get entries key ≡ some e → e.targets ≡ due key
@@ -57,14 +61,14 @@ module _ (due : List ℕ → List ℕ) where
       go true ih = ih
       go false ih = (a.0, ih)
 
-  push_kept : (entries : HashMap ℕ) (x : List ℕ × CacheEntry ℕ) → Each Kept entries → Kept x → Each Kept (entries ++ (x ∷ []))
+  push_kept : (entries : HashMap ℕ) (x : Pair) → Each Kept entries → Kept x → Each Kept (entries ++ (x ∷ []))
   push_kept [] x a k = (k, tt)
   push_kept (y ∷ rest) x a k = (a.0, push_kept rest x a.1 k)
 
   evict_kept : (iter : Iter ℕ) (cache : ResolveCache ℕ) → Each Kept cache.entries → Each Kept (evict_if_full iter cache)
   evict_kept iter cache a = go (ltb (length cache.entries) cache.capacity) (iter.min_by_last_used cache.entries)
     where
-      go : (b : Bool) (o : Option (List ℕ × CacheEntry ℕ)) → Each Kept (when b then cache.entries else without o cache.entries)
+      go : (b : Bool) (o : Option Pair) → Each Kept (when b then cache.entries else without o cache.entries)
       go true o = a
       go false none = a
       go false (some victim) = remove-kept cache.entries victim.0 a

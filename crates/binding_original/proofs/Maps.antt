@@ -9,10 +9,7 @@ use lib.ListN.{length}
 use Rattle.subject_rules.specs.Original.{when◌then◌else◌, equal}
 use Rattle.sublist_tree.proofs.Bytes.{eqb_whole}
 use Rattle.binding_original.specs.Original.{CacheEntry, HashMap, Each, get, refresh, remove}
-use Rattle.binding_original.proofs.Keeping.{equal-sound}
-
-abbrev Pair : Type 0
-Pair = List ℕ × CacheEntry ℕ
+use Rattle.binding_original.proofs.Keeping.{Pair, equal-sound}
 
 pub equal_whole : (xs : List ℕ) → equal xs xs ≡ true
 equal_whole [] = refl

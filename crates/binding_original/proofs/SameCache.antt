@@ -25,12 +25,10 @@ use Rattle.resolve_cache_rules.proofs.Slots.{touch-stamp, touch-stamp_other, kee
 use Rattle.binding_original.specs.Original as original
 use Rattle.binding_original.specs.Original.{CacheEntry, HashMap, Iter, wrapping_add, without, miss}
 use Rattle.binding_original.specs.Caches.{row}
+use Rattle.binding_original.proofs.Keeping.{Pair}
 use Rattle.binding_original.proofs.Near.{Near}
 use Rattle.binding_original.proofs.OurCache.{Keeps, Anything}
 use Rattle.binding_original.proofs.Maps.{equal_whole, equal_other, each_at, Once, absent_of, upd, refresh-length, refresh_to, refresh_from, refresh_once, remove_absent, remove_from, remove_to, remove_once, remove-length, push_old, push-new, push_from, push_once}
-
-abbrev Pair : Type 0
-Pair = List ℕ × CacheEntry ℕ
 
 pair_is : (k l : List ℕ) (xs ys : List ℕ) (s t : ℕ) → k ≡ l → xs ≡ ys → s ≡ t
     → ◌≡◌ {A = Pair} (k, record { targets = xs; last_used = s }) (l, record { targets = ys; last_used = t })

@@ -28,7 +28,7 @@ use Rattle.binding.specs.Calls.{Kept}
 use Rattle.binding_original.specs.Original as original
 use Rattle.binding_original.specs.Original.{CacheEntry, Iter, guarded, get, miss}
 use Rattle.binding_original.specs.Caches.{row, uncacheable}
-use Rattle.binding_original.proofs.Keeping.{Kept as Trusted, list_of, left_of, Trusty, trusty_list, left_trusty, left_on}
+use Rattle.binding_original.proofs.Keeping.{Pair, Kept as Trusted, list_of, left_of, Trusty, trusty_list, left_trusty, left_on}
 use Rattle.binding_original.proofs.Maps.{each_at, get_none, get_some}
 use Rattle.binding_original.proofs.OurCache.{Keeps, Anything, emptied_keeps, adopted_keeps, adopted_generation, slot_of, listed, left_by, left_keeps, left-generation}
 use Rattle.binding_original.proofs.Near.{Near, near_later, emptied_near, cleared_near, fresh_zero, fresh_near}
@@ -151,14 +151,14 @@ module _ (spoiled mixed : Bool) (stood : List ℕ) (due : List ℕ → List ℕ)
             let f = find-sound e.capacity a.keys subject 0 e.used i q in
             let w = n.same.only (subject, x) (get_some on.entries subject x p) in
             let below : i < e.used = omega (arith, f.below) in
-            let same : w.0 ≡ i = n.apart w.0 i w.1 below (ap (λ (z : List ℕ × CacheEntry ℕ). z.0) (sym w.2) ∙ sym f.key) in
-            (ap (λ j. (row e.capacity a j).1.targets) (sym same) ∙ ap (λ (z : List ℕ × CacheEntry ℕ). z.1.targets) (sym w.2), (below, f.key))
+            let same : w.0 ≡ i = n.apart w.0 i w.1 below (ap (λ (z : Pair). z.0) (sym w.2) ∙ sym f.key) in
+            (ap (λ j. (row e.capacity a j).1.targets) (sym same) ∙ ap (λ (z : Pair). z.1.targets) (sym w.2), (below, f.key))
         go (some i) q none p =
             let f = find-sound e.capacity a.keys subject 0 e.used i q in
             each_at (λ x. x.0 ≡ subject → ⊥) on.entries (row e.capacity a i) (get_none on.entries subject p) (n.same.kept i (omega (arith, f.below))) f.key
         go none q (some x) p =
             let w = n.same.only (subject, x) (get_some on.entries subject x p) in
-            find_none e.capacity a.keys subject 0 e.used q w.0 (omega arith) (omega (arith, w.1)) (fit_on.small w.0 w.1) (ap (λ (z : List ℕ × CacheEntry ℕ). z.0) (sym w.2))
+            find_none e.capacity a.keys subject 0 e.used q w.0 (omega arith) (omega (arith, w.1)) (fit_on.small w.0 w.1) (ap (λ (z : Pair). z.0) (sym w.2))
         go none q none p = λ j h r. find_none e.capacity a.keys subject 0 e.used q j (omega arith) (omega (arith, h)) (fit_on.small j h) r
 
     right-list : mixed ≡ false → listed e a list (slot_of e a subject) ≡ list

@@ -4,15 +4,13 @@ use native.Mathlib.Omega.{arith}
 use mathlib.Core.Path.{◌≡◌, refl, subst}
 use mathlib.Core.Logic.{◌⊎◌, inl, inr}
 use mathlib.Core.Bool.{Bool, true, false}
-use mathlib.Core.List.{List, [], ◌∷◌, Memᴰ}
+use mathlib.Core.List.{[], ◌∷◌, Memᴰ}
 use mathlib.Core.Option.{Option, none, some}
 use lib.Dec.{ltb}
 use borrow.Author.Tests.{ltb-true, ltb-false}
 use Rattle.subject_rules.specs.Original.{when◌then◌else◌}
-use Rattle.binding_original.specs.Original.{CacheEntry, HashMap, Each, Iter}
-
-abbrev Pair : Type 0
-Pair = List ℕ × CacheEntry ℕ
+use Rattle.binding_original.specs.Original.{HashMap, Each, Iter}
+use Rattle.binding_original.proofs.Keeping.{Pair}
 
 abbrev stamp_of : Pair → ℕ
 stamp_of x = x.1.last_used

@@ -124,7 +124,8 @@ impl Writer<'_> {
     {
         let mut tokens = subject::new(first);
         let mut others = subject::new(second);
-        // Kept: a `for` would hold the reader itself, and `put_rest` takes what is left of it.
+        // Kept: a `for` over `tokens.by_ref()` was tried: inside it the proof does not know what the loop left of the
+        // reader, which `put_rest` takes.
         while let Some(token) = tokens.next() {
             let other = others.next()?;
             if subject::is_tail(token) {
@@ -135,10 +136,7 @@ impl Writer<'_> {
             }
             self.put_common(token, other)?;
         }
-        match others.next() {
-            Some(_) => None,
-            None => Some(()),
-        }
+        others.next().is_none().then_some(())
     }
 }
 

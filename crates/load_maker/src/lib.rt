@@ -104,6 +104,7 @@ fn make(wild: bool, state: u64, out: &mut [u8]) -> MadeText
 }
 
 // A pattern is made from a state. A refusal leaves the output and gives the state back.
+// Kept: C calls this and `make_subject` by these names; one function with a flag would read no plainer there.
 pub fn make_pattern(state: u64, out: &mut [u8]) -> MadeText
     ensures { made_by result out.new ≡ make true state out.old }
 {

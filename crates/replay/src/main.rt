@@ -12,6 +12,8 @@
 // The folder host/compare/src/bin/record has the form: recording.rs that of every record, calls.rs the kinds.
 #![tactic(auto)]
 
+ghost use Rattle.std.specs.Prelude.{◌≤◌};
+
 use router_c::{
     CAnswer, CCache, CMadeSnapshot, CResolved, CSnapshot, CStored, router_build,
     router_cache_clear, router_cache_new, router_insert, router_match, router_matches,
@@ -184,6 +186,20 @@ impl<'a> Fields<'a> {
         Words { count, fields }
     }
 
+    // Which cache; then, as the call leaves it, the subjects kept, the walks and the generation.
+    fn cache(&mut self) -> Left {
+        let which = usize::from(self.byte().value.min(1));
+        let subjects = self.word();
+        let walks = self.number();
+        let generation = self.number();
+        Left {
+            which,
+            subjects,
+            walks,
+            generation,
+        }
+    }
+
     // An answer: a number and two values.
     fn answer(&mut self) -> Recorded {
         let number = self.byte();
@@ -212,21 +228,21 @@ struct Recorded {
     second: Field<u32>,
 }
 
+// Which cache a record is of, and what it holds when the call is done: subjects kept, walks and generation.
+#[derive(Clone, Copy)]
+struct Left {
+    which: usize,
+    subjects: Field<u32>,
+    walks: Field<u64>,
+    generation: Field<u64>,
+    ghost one_of_two: { which ≤ 1 },
+}
+
 // It, and what is left of the record: what the call takes, and what else it gave.
 #[derive(Clone, Copy)]
 struct Record<'a> {
     answer: Recorded,
     fields: Fields<'a>,
-}
-
-// An answer to a call that is made here.
-fn answer(number: u64, first: u64, second: u64, third: u64) -> CAnswer {
-    CAnswer {
-        number,
-        first,
-        second,
-        third,
-    }
 }
 
 // Kept: the number of the answer that is said for a record of no kind, for which no call is made. No record has it.
@@ -307,6 +323,13 @@ impl<'a, R: Print> Tally<'a, R> {
         Ok(())
     }
 
+    // Holds a cache to what a record says of it.
+    fn hold_cache(&mut self, cache: &CCache, left: Left) -> io::Result<()> {
+        self.hold(cache.used as u64, left.subjects)?;
+        self.hold(cache.walks, left.walks)?;
+        self.hold(cache.generation, left.generation)
+    }
+
     fn report(&self) -> io::Result<()> {
         let rt = self.rt;
         for kind in KINDS {
@@ -377,7 +400,7 @@ fn without_second(a: CAnswer) -> CAnswer {
     if a.number != 0 {
         return a;
     }
-    answer(0, a.first, 0, a.third)
+    CAnswer::new(0, &[a.first, 0, a.third])
 }
 
 // The length of the list that an answer tells.
@@ -404,7 +427,7 @@ impl List {
     fn begin(&mut self) -> CAnswer {
         self.entries = 0;
         self.used = 0;
-        answer(0, 0, 0, 0)
+        CAnswer::new(0, &[])
     }
 
     // The target, then the pattern. The original says of an insert only that it is done.
@@ -423,7 +446,7 @@ impl List {
         }
         self.entries = given.first as usize;
         self.used = given.second as usize;
-        answer(0, 0, 0, 0)
+        CAnswer::new(0, &[])
     }
 
     fn build(&mut self, generation: u64) -> CAnswer {
@@ -488,7 +511,7 @@ impl Standing {
             generation: s.generation,
             next: s.next,
         };
-        answer(s.number, 0, 0, s.stamped)
+        CAnswer::new(s.number, &[0, 0, s.stamped])
     }
 
     // The generation afterwards. The snapshot is of the table that was built last.
@@ -530,7 +553,7 @@ impl Standing {
 
     fn verdict(&self, subject: &[u8], out: &mut Targets) -> CAnswer {
         let given = router_resolve_single_home(self.snapshot, &self.area, subject, out);
-        answer(given.number, given.kind, given.value, 0)
+        CAnswer::new(given.number, &[given.kind, given.value])
     }
 }
 
@@ -560,12 +583,12 @@ impl Cache {
             tick: made.tick,
             walks: made.walks,
         };
-        self.shown(answer(made.number, made.capacity, 0, 0), out)
+        self.shown(CAnswer::new(made.number, &[made.capacity]), out)
     }
 
     fn clear(&mut self, out: &mut Targets) -> CAnswer {
         self.state = router_cache_clear(self.state);
-        self.shown(answer(0, 0, 0, 0), out)
+        self.shown(CAnswer::new(0, &[]), out)
     }
 
     // Kept: where an answer's first value is 0, the slot that its second names goes over the output, with zeros behind
@@ -589,7 +612,7 @@ impl Cache {
             tick: r.tick,
             walks: r.walks,
         };
-        self.shown(answer(r.number, r.first, r.second, r.third), out)
+        self.shown(CAnswer::new(r.number, &[r.first, r.second, r.third]), out)
     }
 
     fn resolve(&mut self, standing: &Standing, subject: &[u8], out: &mut Targets) -> CAnswer {
@@ -663,9 +686,10 @@ impl Router {
             Kind::Store => self.store(tally, record),
             Kind::MatchSnapshot => self.match_snapshot(tally, record),
             Kind::Verdict => tally.hold_answer(self.verdict(fields), recorded),
-            Kind::NewCache | Kind::Clear | Kind::Resolve | Kind::CachedVerdict => self.call_cache(
-                tally, kind, record,
-            ),
+            Kind::NewCache => self.new_cache(tally, record),
+            Kind::Clear => self.clear(tally, record),
+            Kind::Resolve => self.resolve(tally, record),
+            Kind::CachedVerdict => self.cached_verdict(tally, record),
         }
     }
 
@@ -724,36 +748,62 @@ impl Router {
         self.standing.verdict(fields.rest(), &mut self.out)
     }
 
-    // Which cache; then, as the call leaves it, the subjects kept, the walks and the generation; then what the call
-    // takes.
-    fn call_cache<R: Print>(
+    // The cache, then the capacity asked for.
+    fn new_cache<R: Print>(
         &mut self,
         tally: &mut Tally<'_, R>,
-        kind: Kind,
         mut record: Record<'_>,
     ) -> io::Result<()> {
-        let which = record.fields.byte().value;
-        let standing = &self.standing;
-        let out = &mut self.out;
-        let cache = &mut self.caches[usize::from(which.min(1))];
-        let subjects = record.fields.word();
-        let walks = record.fields.number();
-        let generation = record.fields.number();
-        match kind {
-            Kind::NewCache => {
-                let given = cache.begin(record.fields.word().value, out);
-                tally.hold_answer(given, record.answer)?;
-            }
-            Kind::Clear => tally.hold_answer(cache.clear(out), record.answer)?,
-            Kind::Resolve => resolve(cache, standing, out, tally, record)?,
-            _ => {
-                let given = cache.verdict(standing, record.fields.rest(), out);
-                tally.hold_answer(given, record.answer)?;
-            }
+        let left = record.fields.cache();
+        let cache = &mut self.caches[left.which];
+        let given = cache.begin(record.fields.word().value, &mut self.out);
+        tally.hold_answer(given, record.answer)?;
+        tally.hold_cache(&cache.state, left)
+    }
+
+    // The cache.
+    fn clear<R: Print>(
+        &mut self,
+        tally: &mut Tally<'_, R>,
+        mut record: Record<'_>,
+    ) -> io::Result<()> {
+        let left = record.fields.cache();
+        let cache = &mut self.caches[left.which];
+        let given = cache.clear(&mut self.out);
+        tally.hold_answer(given, record.answer)?;
+        tally.hold_cache(&cache.state, left)
+    }
+
+    // The cache, the list, then the subject. The original says how long the list of a resolve is, and not where it
+    // lies.
+    fn resolve<R: Print>(
+        &mut self,
+        tally: &mut Tally<'_, R>,
+        mut record: Record<'_>,
+    ) -> io::Result<()> {
+        let left = record.fields.cache();
+        let list = record.fields.list();
+        let cache = &mut self.caches[left.which];
+        let mut given = cache.resolve(&self.standing, record.fields.rest(), &mut self.out);
+        if given.number == 0 {
+            given = CAnswer::new(0, &[given.third]);
         }
-        tally.hold(cache.state.used as u64, subjects)?;
-        tally.hold(cache.state.walks, walks)?;
-        tally.hold(cache.state.generation, generation)
+        tally.hold_answer(given, record.answer)?;
+        tally.hold_list(length_of(given), list, &self.out)?;
+        tally.hold_cache(&cache.state, left)
+    }
+
+    // The cache, then the subject.
+    fn cached_verdict<R: Print>(
+        &mut self,
+        tally: &mut Tally<'_, R>,
+        mut record: Record<'_>,
+    ) -> io::Result<()> {
+        let left = record.fields.cache();
+        let cache = &mut self.caches[left.which];
+        let given = cache.verdict(&self.standing, record.fields.rest(), &mut self.out);
+        tally.hold_answer(given, record.answer)?;
+        tally.hold_cache(&cache.state, left)
     }
 }
 
@@ -772,23 +822,6 @@ fn single_home(mut fields: Fields<'_>, out: &mut Targets) -> CAnswer {
     }
     let count = usize::from(list.count.value);
     router_single_home(out.get(..count).unwrap_or_default())
-}
-
-// The list, then the subject. The original says how long the list of a resolve is, and not where it lies.
-fn resolve<R: Print>(
-    cache: &mut Cache,
-    standing: &Standing,
-    out: &mut Targets,
-    tally: &mut Tally<'_, R>,
-    mut record: Record<'_>,
-) -> io::Result<()> {
-    let list = record.fields.list();
-    let mut given = cache.resolve(standing, record.fields.rest(), out);
-    if given.number == 0 {
-        given = answer(0, given.third, 0, 0);
-    }
-    tally.hold_answer(given, record.answer)?;
-    tally.hold_list(length_of(given), list, out)
 }
 
 // ---- The whole recording: the number of records in eight bytes, then the records, each behind its length.
@@ -829,7 +862,7 @@ fn replay_record<R: Print>(
         }
         Err(no_kind) => {
             tally.count_no_kind(no_kind);
-            tally.hold_answer(answer(NO_ANSWER, 0, 0, 0), recorded)
+            tally.hold_answer(CAnswer::new(NO_ANSWER, &[]), recorded)
         }
     }
 }

@@ -3,4 +3,5 @@ pub mod Keeping
 pub mod Marks
 pub mod Refusals
 pub mod Resolving
+pub mod Runs
 pub mod Scans

@@ -13,10 +13,11 @@ use Rattle.resolve_cache_rules.specs.declared.ResolveCache.{ResolveCache}
 use Rattle.resolve_cache_rules.specs.Area.{Area, key_length, target_count, touch}
 use Rattle.resolve_cache_rules.specs.Cache.{short, bad_from, bad, keeps_at, find_from, emptied, adopt, ticked, hit, in_kept}
 use Rattle.resolve_cache_rules.specs.Cache.{Resolved, unchanged, if_accepted, miss, work_by, work, resolve}
-use Rattle.resolve_cache_rules.specs.Ready.{Wide, Ready}
-use Rattle.resolve_cache_rules.proofs.Slots.{or_false}
-use Rattle.resolve_cache.specs.declared.ResolveError.{ResolveError}
-use Rattle.resolve_cache.specs.Answers.{resolve_refusal}
+use Rattle.resolve_cache_rules.specs.Ready.{Wide, Ready, Small, Accepted}
+use Rattle.resolve_cache_rules.proofs.Slots.{or_false, short-wide}
+use Rattle.subject.specs.Answers.{refusal}
+use Rattle.subject.specs.declared.SubjectError.{SubjectError}
+use Rattle.resolve_cache.specs.declared.ResolveError.TheVariants.{Invalid}
 use Rattle.resolve_cache.proofs.Refusals.{refusal-number}
 use Rattle.resolve_cache.specs.Deciding.{Absent, FirstOf}
 
@@ -28,11 +29,11 @@ module _ (c : ResolveCache) (a : Area) (b : bad c a ≡ false) where
   rest : (ltb c.capacity c.used ≡ false) × (bad_from c.capacity a.keys 0 c.used ≡ false)
   rest = or_false (ltb c.capacity c.used) (bad_from c.capacity a.keys 0 c.used) parts.1
 
-  pub good_ready : Wide c.capacity a → Ready c a
+  good_ready : Wide c.capacity a → Ready c a
   good_ready r = record { any = omega (arith, eqb-false c.capacity 0 parts.0); fits = ltb-false c.capacity c.used rest.0; wide = r }
 
 -- the cache on a generation uses no more slots, and has the same capacity
-pub adopt-used : (g : Generation) (c : ResolveCache) → ((adopt g c).used ≤ c.used) × ((adopt g c).capacity ≡ c.capacity)
+adopt-used : (g : Generation) (c : ResolveCache) → ((adopt g c).used ≤ c.used) × ((adopt g c).capacity ≡ c.capacity)
 adopt-used g c = go (eqb c.generation.0 g.0)
   where
     go : (b : Bool) → ((pick b c (emptied g c)).used ≤ c.used) × ((pick b c (emptied g c)).capacity ≡ c.capacity)
@@ -41,7 +42,7 @@ adopt-used g c = go (eqb c.generation.0 g.0)
 
 -- the cache on a generation has room too, and no bad slot
 module _ (g : Generation) (c e : ResolveCache) (a : Area) (on : e ≡ adopt g c) where
-  pub ready_current : Ready c a → Ready e a
+  ready_current : Ready c a → Ready e a
   ready_current r =
       rw on (record { any = omega (arith, r.any, (adopt-used g c).1); fits = omega (arith, r.fits, (adopt-used g c).0, (adopt-used g c).1); wide = rw (adopt-used g c).1 r.wide })
 
@@ -63,6 +64,17 @@ module _ (c : ℕ) (keys subject : List ℕ) where
           let later : suc from ≤ i = omega (arith, eqb-false from i q) in
           rw (others from (omega arith) later) (ih later (omega arith) here (λ j k l. others j (omega arith) l))
 
+-- 1 to 9, 17, 18 and 19 on the counts do not apply; e is the cache on the standing table's generation
+pub record Asked (c : ResolveCache) (a : Area) (s : Snapshot) (words subject : List ℕ) (e : ResolveCache) : Type 0 where
+  pub accepted : Accepted subject
+  pub fits : short c.capacity a ≡ false
+  pub good : bad c a ≡ false
+  pub stands : stands_in s words ≡ true
+  pub on : e ≡ adopt s.generation c
+
+pub asked_ready : (c : ResolveCache) (a : Area) (s : Snapshot) (words subject : List ℕ) (e : ResolveCache) → Asked c a s words subject e → Ready e a
+asked_ready c a s words subject e g = ready_current s.generation c e a g.on (good_ready c a g.good (short-wide c.capacity a g.fits))
+
 module _ (c : ResolveCache) (a : Area) (s : Snapshot) (words subject out : List ℕ) where
   -- what a walk leaves
   abbrev pub walking : Resolved
@@ -75,9 +87,9 @@ module _ (c : ResolveCache) (a : Area) (s : Snapshot) (words subject out : List 
   whole = resolve c a s words subject out
 
   -- 1 to 9
-  pub text-refused : (e : ResolveError) → resolve_refusal e ≡ grammar false subject → unchanged c a subject out (resolve_refusal e) ≡ whole
+  pub text-refused : (e : SubjectError) → refusal e ≡ grammar false subject → unchanged c a subject out (refusal e) ≡ whole
   unfolding resolve
-  text-refused e g = rw (← g, (refusal-number e).2)
+  text-refused e g = rw (← g, (refusal-number (Invalid e)).2)
 
   module _ (n : ℕ) (accepted : answer 0 (n ∷ []) ≡ grammar false subject) where
     pub refused-short : short c.capacity a ≡ true → unchanged c a subject out (answer 17 []) ≡ whole
@@ -89,54 +101,58 @@ module _ (c : ResolveCache) (a : Area) (s : Snapshot) (words subject out : List 
       unfolding resolve
       refused-bad b = rw (← accepted, fits, b)
 
-      module _ (good : bad c a ≡ false) where
-        pub refused-damaged : stands_in s words ≡ false → unchanged c a subject out (answer 19 []) ≡ whole
-        unfolding resolve
-        refused-damaged d = rw (← accepted, fits, good, d)
+      pub refused-damaged : bad c a ≡ false → stands_in s words ≡ false → unchanged c a subject out (answer 19 []) ≡ whole
+      unfolding resolve
+      refused-damaged good d = rw (← accepted, fits, good, d)
 
-        -- e is the cache on the standing table's generation
-        module _ (stands : stands_in s words ≡ true) (e : ResolveCache) (on : e ≡ adopt s.generation c) where
-          same-capacity : e.capacity ≡ c.capacity
-          same-capacity = ap (λ d. d.capacity) on ∙ (adopt-used s.generation c).1
+  module _ (e : ResolveCache) (g : Asked c a s words subject e) where
+    same-capacity : e.capacity ≡ c.capacity
+    same-capacity = ap (λ d. d.capacity) g.on ∙ (adopt-used s.generation c).1
 
-          full : work c a subject out (adopt s.generation c) (walk_of s words subject) ≡ whole
-          unfolding resolve
-          full = rw (← accepted, fits, good, stands)
+    full : work c a subject out (adopt s.generation c) (walk_of s words subject) ≡ whole
+    unfolding resolve
+    full = rw (g.accepted.1, g.fits, g.good, g.stands)
 
-          works : (o : stated.Option ℕ) → find_from c.capacity a.keys subject 0 e.used ≡ o → work_by c a subject out o e (walk_of s words subject) ≡ whole
-          works o q =
-              ap (λ x. work_by c a subject out x e (walk_of s words subject)) (sym q ∙ ap (λ m. find_from m a.keys subject 0 e.used) (sym same-capacity))
-              ∙ ap (λ d. work c a subject out d (walk_of s words subject)) on
-              ∙ full
+    works : (o : stated.Option ℕ) → find_from c.capacity a.keys subject 0 e.used ≡ o → work_by c a subject out o e (walk_of s words subject) ≡ whole
+    works o q =
+        ap (λ x. work_by c a subject out x e (walk_of s words subject)) (sym q ∙ ap (λ m. find_from m a.keys subject 0 e.used) (sym same-capacity))
+        ∙ ap (λ d. work c a subject out d (walk_of s words subject)) g.on
+        ∙ full
 
-          pub walks : FirstOf c.capacity a.keys subject 0 e.used None → walking ≡ whole
-          walks absent =
-              rw (← accepted, stands)
-              (subst (λ d. miss c a subject out d (walk_of s words subject) ≡ whole) on
-              (works none (absent-none c.capacity a.keys subject 0 e.used (λ i h k. absent i h (omega arith)))))
+    pub walks : FirstOf c.capacity a.keys subject 0 e.used None → walking ≡ whole
+    walks absent =
+        rw (g.accepted.1, g.stands)
+        (subst (λ d. miss c a subject out d (walk_of s words subject) ≡ whole) g.on
+        (works none (absent-none c.capacity a.keys subject 0 e.used (λ i h k. absent i h (omega arith)))))
 
-          -- a hit at slot i, whose byte of the second list says the number of its targets
-          module _ (i : ℕ) (first : FirstOf c.capacity a.keys subject 0 e.used (Some i)) (small : key_length c.capacity a.keys i ≤ 256) where
-            found : find_from c.capacity a.keys subject 0 e.used ≡ some i
-            found = first-some c.capacity a.keys subject 0 e.used i (omega arith) (omega (arith, first.1)) first.2 first.3
+    -- a hit at slot i, whose byte of the second list says the number of its targets
+    module _ (small : Small c.capacity a.keys c.used) (i : ℕ) (first : FirstOf c.capacity a.keys subject 0 e.used (Some i)) where
+      found : find_from c.capacity a.keys subject 0 e.used ≡ some i
+      found = first-some c.capacity a.keys subject 0 e.used i (omega arith) (omega (arith, first.1)) first.2 first.3
 
-            count-is : get_or a.keys (c.capacity + i) 0 ≡ target_count e.capacity a.keys i
-            count-is = rw same-capacity (omega (arith, small))
+      count-is : get_or a.keys (c.capacity + i) 0 ≡ target_count e.capacity a.keys i
+      count-is =
+          let used : e.used ≤ c.used = rw g.on (adopt-used s.generation c).0 in
+          let short : key_length c.capacity a.keys i ≤ 256 = (small i (omega (arith, first.1))).0 in
+          rw same-capacity (omega arith)
 
-            by : ℕ → Resolved
-            by count =
-                pick (ltb (length out) count) (unchanged c a subject out (answer 21 (count ∷ [])))
-                (record { says = in_kept (16 * i) count; cache = hit e; area = touch a i (ticked e).0; out = out })
+      by : ℕ → Resolved
+      by count =
+          pick (ltb (length out) count) (unchanged c a subject out (answer 21 (count ∷ [])))
+          (record { says = in_kept (16 * i) count; cache = hit e; area = touch a i (ticked e).0; out = out })
 
-            hits : by (get_or a.keys (c.capacity + i) 0) ≡ whole
-            unfolding by
-            hits = ap by count-is ∙ works (some i) found
+      hits : by (get_or a.keys (c.capacity + i) 0) ≡ whole
+      unfolding by
+      hits = ap by count-is ∙ works (some i) found
 
-            pub hit-short : length out < get_or a.keys (c.capacity + i) 0 → unchanged c a subject out (answer 21 (get_or a.keys (c.capacity + i) 0 ∷ [])) ≡ whole
-            unfolding by
-            hit-short h = rw lt-ltb at hits
+      pub hit-short : length out < get_or a.keys (c.capacity + i) 0 → unchanged c a subject out (answer 21 (get_or a.keys (c.capacity + i) 0 ∷ [])) ≡ whole
+      unfolding by
+      hit-short h = rw lt-ltb at hits
 
-            pub hit-shown : get_or a.keys (c.capacity + i) 0 ≤ length out
-                → ◌≡◌ {A = Resolved} (record { says = in_kept (16 * i) (get_or a.keys (c.capacity + i) 0); cache = hit e; area = touch a i (ticked e).0; out = out }) whole
-            unfolding by
-            hit-shown h = rw le-ltb at hits
+      pub hit-shown : get_or a.keys (c.capacity + i) 0 ≤ length out
+          → ◌≡◌ {A = Resolved} (record { says = in_kept (16 * i) (get_or a.keys (c.capacity + i) 0); cache = hit e; area = touch a i (ticked e).0; out = out }) whole
+      unfolding by
+      hit-shown h = rw le-ltb at hits
+
+-- the refusals before the cache is asked
+pub ruleset stages = (text-refused, refused-short, refused-bad, refused-damaged)

@@ -1,5 +1,5 @@
 -- Only private contracts cite this file: what the steps of a resolve leave.
-use Rattle.std.specs.Prelude.{◌≡◌, ℕ, ◌≤◌, ◌<◌, true, false, List, Option, Some, None, Result}
+use Rattle.std.specs.Prelude.{◌≡◌, ℕ, ◌*◌, ◌≤◌, ◌<◌, true, false, List, length, Option, Some, None, Result}
 use Rattle.subject_rules.specs.Choice.{pick}
 use Rattle.resolve_cache_rules.specs.declared.ResolveCache.{ResolveCache}
 use Rattle.resolve_cache.specs.declared.Slots.{Slots}
@@ -9,6 +9,10 @@ use Rattle.resolve_cache_rules.specs.Area.{Area, keep}
 use Rattle.resolve_cache_rules.specs.Cache.{keeps_at, place, ticked, walked, grown, qualifies}
 use Rattle.resolve_cache_rules.specs.Cache.{Resolved}
 use Rattle.resolve_cache.specs.Answers.{resolve_answer}
+
+-- a list of keys has room for so many slots, 1,024 at the most
+abbrev pub Roomy : ℕ → List ℕ → Type 0
+Roomy c keys = (c ≤ 1024) × (260 * c ≤ length keys)
 
 -- no slot from one place up to another keeps the subject
 abbrev pub Absent : ℕ → List ℕ → List ℕ → ℕ → ℕ → Type 0

@@ -18,7 +18,7 @@ ghost use Rattle.resolve_cache_rules.specs.Ready.{Wide, Ready, Accepted, Small};
 ghost use Rattle.resolve_cache.specs.declared.ResolveError.TheVariants.{Invalid};
 ghost use Rattle.resolve_cache.specs.Answers.{resolve_refusal, resolve_answer, left, list_of};
 ghost use Rattle.resolve_cache.specs.Deciding.{area_of, SameLists, Keeps, leaving};
-ghost use Rattle.resolve_cache.specs.Deciding.{FirstOf};
+ghost use Rattle.resolve_cache.specs.Deciding.{FirstOf, Roomy};
 
 use resolve_cache_rules::{KEY_BYTES, ResolveCache, SLOT_LISTS, SLOT_TARGETS, Tick};
 use subject::SubjectError;
@@ -87,8 +87,7 @@ struct Keys<'a> {
     capacity: usize,
     used: usize,
     ghost inside: { used ≤ capacity },
-    ghost few: { capacity ≤ 1024 },
-    ghost room: { 260 * capacity ≤ length bytes.now },
+    ghost room: { Roomy capacity bytes.now },
     ghost each: { (i : ℕ) → slice_index bytes.now i < 256 },
     ghost small: { Small capacity bytes.now used },
 }
@@ -164,11 +163,12 @@ fn mark_of(key: &[u8]) -> u16
 
 impl<'a> Keys<'a> {
     // The keys of so many slots, unless one of them is bad: it has a key over 256 bytes or over 16 targets, so that its
-    // byte of the second list is over 16. The fold has no other way out, and compiles to steps of sixteen bytes.
+    // byte of the second list is over 16.
+    // Kept: a fold with `|`, which compiles to steps of sixteen bytes; `any` leaves its loop early, looks at a byte a
+    // step, and took ten times as long over 1,024 slots.
     fn new(bytes: &'a [u8], capacity: usize, used: usize) -> Option<Keys<'a>>
         requires { (used ≤ capacity)
-            × (capacity ≤ 1024)
-            × (260 * capacity ≤ length bytes.now) }
+            × Roomy capacity bytes.now }
         ensures { MatchOption result (bad_from capacity bytes.now 0 used ≡ true)
             (λ k. (bad_from capacity bytes.now 0 used ≡ false)
             × (k.bytes.now ≡ bytes.now)
@@ -189,7 +189,7 @@ impl<'a> Keys<'a> {
     }
 
     // Whether one of the 32 slots from a place on may have a mark.
-    // The fold has no other way out, and compiles to steps of sixteen bytes.
+    // Kept: a fold with `|`, as in `new`: `any` took nine times as long here.
     fn any_marked(&self, from: usize, sought: u16) -> bool
         requires { from < self.now.used }
         ensures { result ≡ false → (k : ℕ) → k < 32
@@ -241,30 +241,18 @@ impl<'a> Keys<'a> {
         ensures { FirstOf self.now.capacity self.now.bytes.now subject.now 0 n result }
     {
         let sought = mark_of(subject);
-        for run in 0..n.div_ceil(RUN) {
-            if let Some(slot) = self.find_in_run(run, n, sought, subject) {
-                return Some(slot);
-            }
-        }
-        None
+        (0..n.div_ceil(RUN)).find_map(|run| self.find_in_run(run, n, sought, subject))
     }
 }
 
 // The slot of smallest stamp among the first n, the lowest on a tie.
-#[tactic(auto, using(crate::proofs::Scans::turns))]
 fn oldest(stamps: &[u64], n: usize) -> usize
     requires { (1 ≤ n)
         × (n ≤ length stamps.now) }
     ensures { (result ≡ oldest_from stamps.now 0 1 (n - 1))
         × (result < n) }
 {
-    let mut best = 0;
-    for i in 1..n {
-        if stamps[i] < stamps[best] {
-            best = i;
-        }
-    }
-    best
+    (0..n).min_by_key(|i| stamps[*i]).unwrap_or(0)
 }
 
 // The cache on a table's generation: emptied if it was on another.
@@ -326,8 +314,7 @@ fn grown(cache: ResolveCache) -> ResolveCache
 // A slot's key, with its length, the number of targets and its mark.
 fn put_key(keys: &mut [u8], capacity: usize, i: usize, key: &[u8], count: usize)
     requires { (i < capacity)
-        × (capacity ≤ 1024)
-        × (260 * capacity ≤ length keys.old)
+        × Roomy capacity keys.old
         × (1 ≤ length key.now)
         × (length key.now ≤ 256)
         × (count ≤ 16) }
@@ -405,6 +392,7 @@ impl Slots<'_> {
     }
 
     // What a resolve comes to: 1 to 9, 17, 18, 19 on the counts, then a hit (21), or a walk (19, 21) whose list is kept.
+    #[tactic(auto, using(crate::proofs::Resolving::stages))]
     fn look_up(
         &mut self,
         cache: &mut ResolveCache,

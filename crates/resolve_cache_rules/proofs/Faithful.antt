@@ -62,6 +62,22 @@ unfolding grammar sequence first_bad
 accepted_some [] values e = absurd (cc)
 accepted_some (b ∷ bs) values e = omega arith
 
+-- what a walk leaves, whether its list is kept or not
+pub missed_either : (c : ResolveCache) (a : Area) (subject out : List ℕ) (e : ResolveCache) (list : List ℕ) (P : Resolved → Type 0)
+    → (length subject ≤ 256 → length list ≤ 16
+    → P (record { says = in_out (length list); cache = grown e; area = keep e.capacity a (place e a) subject list (ticked e).0; out = over list out }))
+    → P (record { says = in_out (length list); cache = walked e; area = a; out = over list out })
+    → P (missed c a subject out e list)
+missed_either c a subject out e list P kept unkept = go (ltb 256 (length subject)) (ltb 16 (length list)) refl refl
+  where
+    go : (b d : Bool) → ltb 256 (length subject) ≡ b → ltb 16 (length list) ≡ d
+        → P (pick (not (or b d))
+        (record { says = in_out (length list); cache = grown e; area = keep e.capacity a (place e a) subject list (ticked e).0; out = over list out })
+        (record { says = in_out (length list); cache = walked e; area = a; out = over list out }))
+    go true d p q = unkept
+    go false true p q = unkept
+    go false false p q = kept (ltb-false 256 (length subject) p) (ltb-false 16 (length list) q)
+
 -- a fresh cache
 pub fresh_faithful : (due : List ℕ → List ℕ) (n : ℕ) (c : ResolveCache) (a : Area) → with_capacity n a ≡ answer 0 (cache_numbers c) → Faithful due 0 c a
 unfolding with_capacity
@@ -185,7 +201,7 @@ module _ (due : List ℕ → List ℕ) (g : ℕ) where
           go false = (ap gives due_here, touched e a fe i h (ticked e).0)
 
       missed_good : Good due g (gives list) (missed c a subject out e list)
-      missed_good = go (ltb 256 (length subject)) (ltb 16 (length list)) refl refl
+      missed_good = missed_either c a subject out e list (Good due g (gives list)) (λ s t. (handed_out, kept s t)) (handed_out, unkept)
         where
           handed_out : gives (take (length list) (over list out)) ≡ gives list
           handed_out = ap gives (take-append_seam list (drop (length list) out))
@@ -197,14 +213,6 @@ module _ (due : List ℕ → List ℕ) (g : ℕ) where
           kept s t =
               let k = place_grows e a fe.any fe.fits in
               kept_at e a fe subject filled s t (ticked e).0 (place e a) k.inside (grown e) refl refl on k.fits k.others
-
-          go : (b d : Bool) → ltb 256 (length subject) ≡ b → ltb 16 (length list) ≡ d
-              → Good due g (gives list) (pick (not (or b d))
-              (record { says = in_out (length list); cache = grown e; area = keep e.capacity a (place e a) subject list (ticked e).0; out = over list out })
-              (record { says = in_out (length list); cache = walked e; area = a; out = over list out }))
-          go true d p q = (handed_out, unkept)
-          go false true p q = (handed_out, unkept)
-          go false false p q = (handed_out, kept (ltb-false 256 (length subject) p) (ltb-false 16 (length list) q))
 
       miss_good : (peak : ℕ) → Good due g (fitting (length out) list) (miss c a subject out e (found list peak))
       miss_good peak = go (ltb (length out) (length list))

@@ -5,7 +5,7 @@
 use Prim.Native.Nat.{ℕ, zero, suc, ◌*◌, ◌≤◌, ◌<◌}
 use native.Mathlib.Omega.{arith}
 use mathlib.Core.Path.{◌≡◌, refl}
-use mathlib.Core.Bool.{Bool, true, false, not}
+use mathlib.Core.Bool.{Bool, true, false}
 use mathlib.Core.List.{List, [], ◌∷◌}
 use mathlib.Core.Option.{Option, none, some}
 use lib.Dec.{eqb, ltb}
@@ -15,7 +15,6 @@ use Rattle.subject_rules.specs.Choice.{pick, or}
 use Rattle.subject_rules.specs.Answers.{Answer, answer}
 use Rattle.subject_rules.specs.Grammar.{grammar}
 use Rattle.sublist_walk_rules.specs.Walk.{Walked, found, failed}
-use Rattle.subject_rules.specs.Outputs.{over}
 use Rattle.sublist_snapshot.specs.declared.Generation.{Generation}
 use Rattle.sublist_snapshot.specs.declared.Snapshot.{Snapshot}
 use Rattle.sublist_snapshot.specs.Snapshot.{stands_in, walk_of}
@@ -23,10 +22,10 @@ use Rattle.resolve_cache_rules.specs.declared.ResolveCache.{ResolveCache}
 use Rattle.resolve_cache_rules.specs.Mark.{mark}
 use Rattle.resolve_cache_rules.specs.Area.{Area, target_count, mark_at, key_at, keep, touch}
 use Rattle.resolve_cache_rules.specs.Cache.{short, bad_from, bad, find_from, place, cache_numbers, with_capacity, emptied, clear, adopt}
-use Rattle.resolve_cache_rules.specs.Cache.{ticked, hit, walked, grown, in_kept, in_out, Resolved, unchanged, missed, work_by, if_accepted, resolve}
+use Rattle.resolve_cache_rules.specs.Cache.{ticked, hit, grown, in_kept, Resolved, unchanged, missed, work_by, if_accepted, resolve}
 use Rattle.resolve_cache_rules.specs.Ready.{Wide}
 use Rattle.resolve_cache_rules.proofs.Slots.{or_false, short-wide, Fit, alike_fit, keep_fit, keep_other, small_from, place_grows}
-use Rattle.resolve_cache_rules.proofs.Faithful.{accepted_some, fresh_faithful}
+use Rattle.resolve_cache_rules.proofs.Faithful.{accepted_some, missed_either, fresh_faithful}
 
 -- the mark of each slot in use is its key's
 abbrev pub Marked : ResolveCache → Area → Type 0
@@ -85,15 +84,7 @@ module _ (c : ResolveCache) (a : Area) (subject out : List ℕ) (m : Marked c a)
             (alike_fit e.capacity a (keep e.capacity a (place e a) subject list (ticked e).0) j o (f.small j u)).mark
 
     missed-marked : (list : List ℕ) → Leaves (missed c a subject out e list)
-    missed-marked list = go (ltb 256 (length subject)) (ltb 16 (length list)) refl refl
-      where
-        go : (b d : Bool) → ltb 256 (length subject) ≡ b → ltb 16 (length list) ≡ d
-            → Leaves (pick (not (or b d))
-            (record { says = in_out (length list); cache = grown e; area = keep e.capacity a (place e a) subject list (ticked e).0; out = over list out })
-            (record { says = in_out (length list); cache = walked e; area = a; out = over list out }))
-        go true d p q = λ i h. (f.small i h).mark
-        go false true p q = λ i h. (f.small i h).mark
-        go false false p q = kept list (ltb-false 256 (length subject) p) (ltb-false 16 (length list) q)
+    missed-marked list = missed_either c a subject out e list Leaves (kept list) (λ i h. (f.small i h).mark)
 
     work-marked : (o : Option ℕ) (w : Walked) → Leaves (work_by c a subject out o e w)
     work-marked (some i) w = go (ltb (length out) (target_count e.capacity a.keys i))

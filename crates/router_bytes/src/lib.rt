@@ -105,6 +105,7 @@ fn load<'a, const WIDTH: usize, T: Spelled<WIDTH>>(
 {
     let (parts, _) = bytes.as_chunks::<WIDTH>();
     let (numbers, rest) = room.split_at_mut(parts.len());
+    // Kept: a zip over `iter_mut` would read better, but a proof then knows only how many numbers there are.
     for (i, part) in parts.iter().enumerate() {
         numbers[i] = T::from_bytes(*part);
     }
@@ -116,6 +117,7 @@ fn store<const WIDTH: usize, T: Spelled<WIDTH>>(numbers: &[T], bytes: &mut [u8])
     requires { length numbers.now * WIDTH ≤ length bytes.old }
     ensures { bytes.new ≡ over (flat_map T.spell numbers.now) bytes.old }
 {
+    // Kept: a zip over chunks of the bytes would read better, but a proof then knows only how many bytes there are.
     for (i, number) in numbers.iter().enumerate() {
         let at = i * WIDTH;
         bytes[at..at + WIDTH].copy_from_slice(&number.to_bytes());

@@ -123,6 +123,7 @@ pub fn router_resolve(
 }
 
 // A resolve on bytes: what the resolve on the copies tells, or 99; then the cache.
+// Kept: why it is not one with tables' `told` stands there.
 fn told(r: BytesResolved) -> CResolved
     ensures { Says (answer_in result) (bytes_answer r.answer)
         × (cache_in result ≡ r.cache) }

@@ -32,6 +32,8 @@ pub fn router_match(
 }
 
 // A match on bytes: what the match on the copies tells, or 99.
+// Kept: one function for this and cabinet's `told` would say its answer by any `from`, in a definition of its own, and
+// need a lemma for each of the two contracts: more words than these arms.
 fn told(m: Result<TableMatch, BytesError<MatchError>>) -> CAnswer
     ensures { Says result (bytes_match_answer m) }
 {

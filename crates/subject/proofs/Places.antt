@@ -6,16 +6,6 @@ use Rattle.subject.specs.Reading.{dot_from, tokens_from, part, token_at, past, p
 use Rattle.subject.specs.declared.Token.{Token}
 use Rattle.subject.proofs.Positions.{dot_from_lem, dot_within, tokens-start, tokens-next, tokens-end}
 
--- where a reader stands that has passed n tokens from position `at` on
-abbrev pub passed : List ℕ → ℕ → ℕ → ℕ
-passed text at zero = at
-passed text at (suc n) = past (token_at text (passed text at n)) (passed text at n)
-
--- the first of them first
-passed_first : (text : List ℕ) (at n : ℕ) → passed text at (suc n) ≡ passed text (past (token_at text at) at) n
-passed_first text at zero = refl
-passed_first text at (suc n) = ap (λ (p : ℕ). past (token_at text p) p) (passed_first text at n)
-
 module _ (text : List ℕ) (at : ℕ) (h : at ≤ length text) where
   pub token_here : token_at text at ≡ Some (part at (dot_from text at) (dot_from text at + 1))
   unfolding token_at
@@ -39,10 +29,6 @@ module _ (text : List ℕ) (at : ℕ) (h : length text < at) where
   pub token_none : token_at text at ≡ None
   unfolding token_at
   token_none = rw (lt-leb at (length text) h)
-
-  past_none : past (token_at text at) at ≡ at
-  unfolding past
-  past_none = rw token_none
 
 -- what is known where a token is found at position `at`: it lies in the text, and those that are left are it and those from `next` on
 pub record Found (text : List ℕ) (at start end next : ℕ) : Type 0 where
@@ -78,41 +64,40 @@ end-found text at k e f = go (leb at (length text)) refl
         let z : ◌≡◌ {A = ℕ} 0 1 = cc in absurd (omega arith)
     go false g = leb-false at (length text) g
 
--- the reader finds the token at its place
-place_read : (text : List ℕ) (n at : ℕ) → place_in at (tokens_from text at) n ≡ token_at text (passed text at n)
-place_read text zero at = go (leb at (length text)) refl
+-- the token at position `at` is the first of those left
+pub first_read : (text : List ℕ) (at : ℕ) → token_at text at ≡ place_in at (tokens_from text at) 0
+first_read text at = go (leb at (length text)) refl
   where
-    go : (b : Bool) → leb at (length text) ≡ b → place_in at (tokens_from text at) 0 ≡ token_at text at
+    go : (b : Bool) → leb at (length text) ≡ b → token_at text at ≡ place_in at (tokens_from text at) 0
     go true e =
         let h = leb-true at (length text) e in
         rw (tokens-next text at h, first_ends text at h, token_here text at h)
     go false e =
         let h = leb-false at (length text) e in
         rw (tokens-end text at h, token_none text at h)
-place_read text (suc n) at = go (leb at (length text)) refl (place_read text n)
-  where
-    go : (b : Bool) → leb at (length text) ≡ b → ((from : ℕ) → place_in from (tokens_from text from) n ≡ token_at text (passed text from n))
-        → place_in at (tokens_from text at) (suc n) ≡ token_at text (passed text at (suc n))
-    go true e more =
-        let h = leb-true at (length text) e in
-        rw (passed_first text at n, place-next text at h n, past_here text at h) (more (dot_from text at + 1))
-    go false e more =
-        let h = leb-false at (length text) e in
-        rw (passed_first text at n, tokens-end text at h, past_none text at h) (rw (tokens-end text at h) at (more at))
 
--- the token that a reader finds behind n tokens of a text
-pub nth_read : (text : List ℕ) (n : ℕ) → token_at text (passed text 0 n) ≡ place_in 0 (tokens text) n
-nth_read text n = rw (← tokens-start text, place_read text n 0)
+module _ (text : List ℕ) (at : ℕ) (k : Option Token) (e : k ≡ token_at text at) where
+  -- where none is found, none is left
+  pub none_read : k ≡ None → (n : ℕ) → None ≡ place_in at (tokens_from text at) n
+  none_read f n = rw (tokens-end text at (end-found text at k e f))
+
+  -- behind the token that is found, each has a number less by one
+  pub next_read : (t : Token) → k ≡ Some t → (n : ℕ) → place_in (past k at) (tokens_from text (past k at)) n ≡ place_in at (tokens_from text at) (suc n)
+  next_read t f n = go (leb at (length text)) refl
+    where
+      go : (b : Bool) → leb at (length text) ≡ b → place_in (past k at) (tokens_from text (past k at)) n ≡ place_in at (tokens_from text at) (suc n)
+      go true g =
+          let h = leb-true at (length text) g in
+          rw (e, past_here text at h) (sym (place-next text at h n))
+      go false g =
+          let z = token_none text at (leb-false at (length text) g) in
+          let x : ◌≡◌ {A = ℕ} 0 1 = cc in absurd (omega arith)
 
 -- past the last token there is none
 place-past : (ts : List (List ℕ)) (at n : ℕ) → length ts ≤ n → place_in at ts n ≡ None
 place-past [] at n h = refl
 place-past (t ∷ ts) at zero h = absurd (omega arith)
 place-past (t ∷ ts) at (suc n) h = place-past ts (at + length t + 1) n (omega arith)
-
--- a reader that has passed i tokens reads token i
-pub read_at : (text t : List ℕ) (i n at : ℕ) (k : Option Token) → t ≡ text → at ≡ passed text 0 i → i ≡ n → k ≡ token_at t at → k ≡ place_in 0 (tokens text) n
-read_at text t i n at k e f same g = g ∙ rw (e, f, same) (nth_read text n)
 
 pub nth_past : (text : List ℕ) (n : ℕ) → length (tokens text) ≤ n → place_in 0 (tokens text) n ≡ None
 nth_past text n h = place-past (tokens text) 0 n h

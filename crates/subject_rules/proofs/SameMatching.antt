@@ -13,20 +13,13 @@ use Rattle.subject_rules.specs.Answers.{Answer, said, when_accepted}
 use Rattle.subject_rules.specs.Grammar.{grammar}
 use Rattle.subject_rules.specs.Matching.{match_tokens, matching}
 use Rattle.subject_rules.specs.Original.{when◌then◌else◌, equal, WILDCARD_ONE, WILDCARD_TAIL, SEP, split, Error, Empty, EmptyToken, IllegalChar, ControlChar, WildcardNotAllowed, TailWildcardNotLast, TooDeep, Ok, Err, validate, match_loop, matches, last, is-tail, has_tail_wildcard, answer_of}
+use Rattle.subject_rules.proofs.Booleans.{and_false, and_true}
 use Rattle.subject_rules.proofs.SameGrammar.{split-tokens, grammar_original}
 
 -- tests in the two spellings
 if_and : (w : Bool) (a b : Bool) → a ≡ b → (when w then a else false) ≡ and w b
 if_and true a b e = e
 if_and false a b e = refl
-
-and_true : (w : Bool) → and w true ≡ w
-and_true true = refl
-and_true false = refl
-
-and_false : (w : Bool) → and w false ≡ false
-and_false true = refl
-and_false false = refl
 
 equal-same : (xs ys : List ℕ) → equal xs ys ≡ same xs ys
 equal-same [] [] = refl

@@ -1,12 +1,14 @@
 -- Two texts read side by side, token by token, as long as their keys are equal. Assumes nothing.
-use Rattle.std.proofs.Common.{◌≡◌, ℕ, suc, Bool, true, false, not, eqb, List, [], ◌∷◌, refl, ap, ◌∙◌}
+use Rattle.std.proofs.Common.{◌≡◌, ℕ, suc, ◌+◌, Bool, true, false, not, cond, eqb, List, [], ◌∷◌, length, take, refl, sym, ap, ◌∙◌, arith}
+use Rattle.std.specs.List.{prefix_len, zip}
+use Rattle.std.proofs.lemmas.List.Folds.{length-prefix_len}
 use Rattle.subject_rules.specs.Choice.{pick, and, or}
-use Rattle.subject_rules.specs.Text.{is_tail, same}
+use Rattle.subject_rules.specs.Text.{is_tail, same, tokens}
 use Rattle.subject_rules.specs.Fnv.{fnv}
 use Rattle.sublist_tree.specs.Tree.{Key, Line, line, onto, line_of, key_is, keys_of}
 use Rattle.sublist_tree.proofs.Bytes.{same-sound}
 use Rattle.sublist_area_rules.specs.Words.{token_key}
-use Rattle.sublist.specs.Sharing.{shared, keys_in, same_key}
+use Rattle.sublist.specs.Sharing.{shared, keys_in, same_key, shared_by}
 
 -- tokens of equal bytes have equal hashes
 pub same_hash : (s t : List ℕ) → same s t ≡ true → fnv s ≡ fnv t
@@ -27,17 +29,18 @@ shared-next t u ts us = go (is_tail t) (is_tail u) (line_of fnv ts 0) (line_of f
     go false true (line ks x y) m = refl
     go false false (line ks x y) (line js v w) = refl
 
--- how many keys the tokens that are left go on with alike, as a token of each is read
-module _ (ts us : List (List ℕ)) where
-  pub none-left : ts ≡ [] → shared eqb (keys_in ts) (keys_in us) ≡ 0
-  none-left e = rw e
+-- the pairs of tokens up to the first whose keys are not equal
+pairs_alike : (ts us : List (List ℕ)) → prefix_len (λ p. same_key p.0 p.1) (zip ts us) ≡ shared eqb (keys_in ts) (keys_in us)
+pairs_alike [] us = refl
+pairs_alike (t ∷ ts) [] = sym (shared_none (keys_in (t ∷ ts)))
+pairs_alike (t ∷ ts) (u ∷ us) = go (same_key t u) (pairs_alike ts us) ∙ sym (shared-next t u ts us)
+  where
+    go : (b : Bool) {m n : ℕ} → m ≡ n → cond b (1 + m) 0 ≡ pick b (suc n) 0
+    go true e = omega (arith, e)
+    go false e = refl
 
-  pub none-right : us ≡ [] → shared eqb (keys_in ts) (keys_in us) ≡ 0
-  none-right e = rw e (shared_none (keys_in ts))
-
-  module _ (t u : List ℕ) (vs ws : List (List ℕ)) (et : ts ≡ t ∷ vs) (eu : us ≡ u ∷ ws) where
-    pub alike : true ≡ same_key t u → shared eqb (keys_in ts) (keys_in us) ≡ suc (shared eqb (keys_in vs) (keys_in ws))
-    alike e = rw (et, eu) (shared-next t u vs ws ∙ rw (← e))
-
-    pub unlike : false ≡ same_key t u → shared eqb (keys_in ts) (keys_in us) ≡ 0
-    unlike e = rw (et, eu) (shared-next t u vs ws ∙ rw (← e))
+-- their number, where the tokens are those of two texts
+pub run_alike : (a b : List ℕ)
+    → length (take (prefix_len (λ p. same_key p.0 p.1) (zip (tokens a) (tokens b))) (zip (tokens a) (tokens b))) ≡ shared_by a b
+unfolding shared_by
+run_alike a b = length-prefix_len (λ p. same_key p.0 p.1) (zip (tokens a) (tokens b)) ∙ pairs_alike (tokens a) (tokens b)

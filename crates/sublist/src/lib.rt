@@ -1,7 +1,7 @@
 // The table that a build makes of a list of entries. A port of IronBus's SublistBuilder, its `build`.
 #![tactic(auto)]
 
-ghost use Rattle.std.specs.Prelude.{◌≡◌, ◌+◌, ◌-◌, ◌*◌, ◌/◌, ◌%◌, ◌<◌, ◌≤◌, max, [], length, take, slice_set, IfOk};
+ghost use Rattle.std.specs.Prelude.{◌≡◌, ◌+◌, ◌-◌, ◌*◌, ◌/◌, ◌%◌, ◌<◌, ◌≤◌, [], length, take, slice_set, IfOk};
 ghost use Rattle.subject_rules.specs.Text.{tokens};
 ghost use Rattle.subject_rules.specs.Fnv.{fnv};
 ghost use Rattle.sublist_tree.specs.Tree.{line_of};
@@ -25,6 +25,30 @@ use sublist_area::NODE_WORDS;
 use sublist_area_rules::{ChildKey, PlaceError, Placed};
 use sublist_entries::{Entry, EntryForm, MAX_ENTRIES};
 use sublist_walk::MAX_FORK_FRONTIER;
+
+// The word of a node with its `*` child.
+const STAR_CHILD: usize = 3;
+
+// The word where a node's exact targets start.
+const EXACT_START: usize = 4;
+
+// The word that counts a node's exact targets.
+const EXACT_COUNT: usize = 5;
+
+// The word where a node's `>` targets start.
+const TAIL_START: usize = 6;
+
+// The word that counts a node's `>` targets.
+const TAIL_COUNT: usize = 7;
+
+// The worst case of a node's `*` child stands where its exact targets will start.
+const STAR_WORST: usize = EXACT_START;
+
+// The worst case of its literal children stands where its `>` targets will start.
+const LITERAL_WORST: usize = TAIL_START;
+
+// The word of a node with its parent.
+const PARENT: usize = 12;
 
 // Why a build is refused: 01's numbers 10 and 12 to 16, in order.
 #[derive(Clone, Copy)]
@@ -93,6 +117,8 @@ impl<'a, F: EntryForm> Model for Listing<'a, F> {
     ghost invariant = { λ l. list_refused (F.entries l.entries.now) l.store.now ≡ none };
 }
 
+// Kept: the passes go over a list by place, since a form reads an entry by its place; an iterator would need a type of
+// its own that counts the places by hand.
 impl<'a, F: EntryForm> Listing<'a, F> {
     // 10, then entry by entry 12 before 13.
     fn new(entries: &'a [F], store: &'a [u8]) -> Result<Listing<'a, F>, SublistError>
@@ -207,18 +233,13 @@ fn insert_pattern(node_words: &mut [u32], nodes: usize, text: &[u8]) -> Result<E
     })
 }
 
-// The word that counts a node's exact or `>` targets.
-fn count_word(tail: bool) -> usize
-    ensures { (result ≡ count_word tail) × (result < words_per_node) }
-{
-    if tail { 7 } else { 5 }
-}
-
-// The word where a node's exact or `>` targets start.
+// The word where a node's exact or `>` targets start. The word behind it counts them.
 fn start_word(tail: bool) -> usize
-    ensures { (result ≡ start_word tail) × (result < words_per_node) }
+    ensures { (result ≡ start_word tail)
+        × (result + 1 ≡ count_word tail)
+        × (result + 1 < words_per_node) }
 {
-    if tail { 6 } else { 4 }
+    if tail { TAIL_START } else { EXACT_START }
 }
 
 // One target more of a node.
@@ -228,7 +249,7 @@ fn count_end(node_words: &mut [u32], end: LineEnd)
     ensures { node_words.new ≡ counted node_words.old end.node end.tail }
 {
     let node = end.node as usize;
-    let field = count_word(end.tail);
+    let field = start_word(end.tail) + 1;
     let more = node_word(node_words, node, field).wrapping_add(1);
     set_word(node_words, node, field, more);
 }
@@ -287,24 +308,18 @@ fn same_key(s: &[u8], t: &[u8]) -> bool
     if is_tail(s) || is_tail(t) {
         return false;
     }
-    if is_star(s) || is_star(t) {
-        return is_star(s) && is_star(t);
-    }
-    same_bytes(s, t) || token_hash(s) == token_hash(t)
+    // Tokens of equal bytes need no hashes.
+    same_bytes(s, t) || child_key(s) == child_key(t)
 }
 
 // The number of keys that two patterns begin with alike.
 fn shared_run(a: &[u8], b: &[u8]) -> usize
     ensures { result ≡ shared_by a.now b.now }
 {
-    let mut shared = 0;
-    for (s, t) in subject::new(a).zip(subject::new(b)) {
-        if !same_key(s, t) {
-            return shared;
-        }
-        shared += 1;
-    }
-    shared
+    subject::new(a)
+        .zip(subject::new(b))
+        .take_while(|(s, t)| same_key(s, t))
+        .count()
 }
 
 // The most keys that a pattern begins with alike with one of the first i entries.
@@ -333,20 +348,15 @@ fn nodes_needed<F: EntryForm>(list: &Listing<'_, F>) -> usize
     needed
 }
 
-// A worst case, from those of the `*` child and of the literal children.
-fn worst_of(star: u32, literal: u32) -> usize
-    ensures { result ≡ max 1 (star + literal) }
-{
-    (star as usize + literal as usize).max(1)
-}
-
-// The worst case of a node; more than a word holds is the largest word.
+// The worst case of a node, from those of its `*` child and of its literal children; more than a word holds is the
+// largest word.
 fn node_worst(node_words: &[u32], i: usize) -> u32
     requires { HasNode node_words.now i }
     ensures { result ≡ node_worst node_words.now i }
 {
-    let worst = worst_of(node_word(node_words, i, 4), node_word(node_words, i, 6));
-    worst.min(u32::MAX as usize) as u32
+    let star = node_word(node_words, i, STAR_WORST);
+    let literal = node_word(node_words, i, LITERAL_WORST);
+    star.saturating_add(literal).max(1)
 }
 
 // A node's parent is told its worst case.
@@ -356,17 +366,17 @@ fn tell(node_words: &mut [u32], i: usize)
     ensures { node_words.new
         ≡ told node_words.old i (word node_words.old i 12) }
 {
-    let parent = node_word(node_words, i, 12) as usize;
+    let parent = node_word(node_words, i, PARENT) as usize;
     if i <= parent {
         return;
     }
     let worst = node_worst(node_words, i);
-    if node_word(node_words, parent, 3) as usize == i {
-        set_word(node_words, parent, 4, worst);
+    if node_word(node_words, parent, STAR_CHILD) as usize == i {
+        set_word(node_words, parent, STAR_WORST, worst);
         return;
     }
-    let most = node_word(node_words, parent, 6).max(worst);
-    set_word(node_words, parent, 6, most);
+    let most = node_word(node_words, parent, LITERAL_WORST).max(worst);
+    set_word(node_words, parent, LITERAL_WORST, most);
 }
 
 // Second pass: the worst case of each node, told to its parent; the answer is the root's.
@@ -379,7 +389,9 @@ fn settle(node_words: &mut [u32], count: usize) -> usize
     for i in (1..count).rev() {
         tell(node_words, i);
     }
-    worst_of(node_word(node_words, 0, 4), node_word(node_words, 0, 6))
+    let star = node_word(node_words, 0, STAR_WORST) as usize;
+    let literal = node_word(node_words, 0, LITERAL_WORST) as usize;
+    (star + literal).max(1)
 }
 
 // Where the targets of a node start, exact ones before `>` ones; its counts start again at 0. The answer is where the
@@ -390,12 +402,12 @@ fn lay_node(node_words: &mut [u32], i: usize, from: u32) -> u32
     ensures node { node_words.new ≡ laid_at node_words.old i from }
     ensures behind { result ≡ (from + word node_words.old i 5 + word node_words.old i 7) % 4294967296 }
 {
-    let tails = from.wrapping_add(node_word(node_words, i, 5));
-    let behind = tails.wrapping_add(node_word(node_words, i, 7));
-    set_word(node_words, i, 4, from);
-    set_word(node_words, i, 5, 0);
-    set_word(node_words, i, 6, tails);
-    set_word(node_words, i, 7, 0);
+    let tails = from.wrapping_add(node_word(node_words, i, EXACT_COUNT));
+    let behind = tails.wrapping_add(node_word(node_words, i, TAIL_COUNT));
+    set_word(node_words, i, EXACT_START, from);
+    set_word(node_words, i, EXACT_COUNT, 0);
+    set_word(node_words, i, TAIL_START, tails);
+    set_word(node_words, i, TAIL_COUNT, 0);
     behind
 }
 
@@ -415,6 +427,7 @@ fn lay(node_words: &mut [u32], count: usize)
 fn put_at(target_words: &mut [u32], at: usize, target: u32)
     ensures { target_words.new ≡ slice_set target_words.old at target }
 {
+    // Kept: a proof knows no more of the words after `get_mut` than how many there are.
     if at < target_words.len() {
         target_words[at] = target;
     }
@@ -428,8 +441,9 @@ fn put_target(node_words: &mut [u32], target_words: &mut [u32], end: LineEnd, ta
         ≡ filled_by (filling node_words.old target_words.old) (end_of end) target }
 {
     let node = end.node as usize;
-    let start = node_word(node_words, node, start_word(end.tail));
-    let count = node_word(node_words, node, count_word(end.tail));
+    let field = start_word(end.tail);
+    let start = node_word(node_words, node, field);
+    let count = node_word(node_words, node, field + 1);
     put_at(target_words, start as usize + count as usize, target);
     count_end(node_words, end);
 }

@@ -2,7 +2,7 @@
 #![tactic(auto)]
 
 ghost use Rattle.std.specs.Prelude.{◌≡◌, ◌+◌, ◌*◌, ◌/◌, ◌<◌, ◌≤◌, ◌^◌, length};
-ghost use Rattle.sublist_area_rules.specs.Words.{words_per_node, key_of, hash_is, by_hash, seek, child_of};
+ghost use Rattle.sublist_area_rules.specs.Words.{words_per_node, key_of, hash_is, by_hash, linked, seek, child_of};
 ghost use Rattle.sublist_area_rules.specs.Growing.{fresh, hash_of, added, child_or_new, rooted};
 
 use sublist_area_rules::{Child, ChildKey, PlaceError, Placed};
@@ -17,6 +17,18 @@ const MAX_NODES: usize = u32::MAX as usize;
 // How many values a word has.
 const WORD: u64 = 4294967296;
 
+// The word of a node with its first literal child.
+const LITERAL_CHILD: usize = 2;
+
+// The word of a node with its `*` child.
+const STAR_CHILD: usize = 3;
+
+// The first of the words of a node with its next siblings.
+const SIBLINGS: usize = 8;
+
+// The word of a node with its parent.
+const PARENT: usize = 12;
+
 // Whether node `at` has the hash.
 fn has_hash(node_words: &[u32], at: usize, hash: u64) -> bool
     requires { at * words_per_node + words_per_node ≤ length node_words.now }
@@ -24,6 +36,21 @@ fn has_hash(node_words: &[u32], at: usize, hash: u64) -> bool
 {
     node_words[at * NODE_WORDS] == (hash % WORD) as u32
         && node_words[at * NODE_WORDS + 1] == (hash / WORD) as u32
+}
+
+// What the number in a link leads to; 0 leads to no node.
+fn linked(node_words: &[u32], count: usize, link: usize) -> Child
+    requires { link < length node_words.now }
+    ensures { result ≡ linked node_words.now count link }
+{
+    let id = node_words[link];
+    if id == 0 {
+        return Child::Missing(link);
+    }
+    if count <= id as usize {
+        return Child::Damaged;
+    }
+    Child::Node(id)
 }
 
 // The sibling with the hash, from a link on.
@@ -34,20 +61,18 @@ fn seek_sibling(node_words: &[u32], count: usize, start: usize, hash: u64) -> Ch
     let mut link = start;
     let mut rest = hash;
     for _step in 0..count {
-        let id = node_words[link];
-        if id == 0 {
-            return Child::Missing(link);
-        }
+        let met = linked(node_words, count, link);
+        let Child::Node(id) = met else {
+            return met;
+        };
         let at = id as usize;
-        if count <= at {
-            return Child::Damaged;
-        }
         if has_hash(node_words, at, hash) {
-            return Child::Node(id);
+            return met;
         }
-        link = at * NODE_WORDS + 8 + (rest % 4) as usize;
+        link = at * NODE_WORDS + SIBLINGS + (rest % 4) as usize;
         rest /= 4;
     }
+    // Kept: with no step left a link to a node is damage too, so this read is not `linked`.
     if node_words[link] == 0 {
         Child::Missing(link)
     } else {
@@ -65,18 +90,10 @@ pub fn child(node_words: &[u32], count: usize, node: u32, key: ChildKey) -> Chil
         return Child::Damaged;
     }
     match key {
-        ChildKey::Literal(hash) => seek_sibling(node_words, count, from * NODE_WORDS + 2, hash),
-        ChildKey::Star => {
-            let link = from * NODE_WORDS + 3;
-            let id = node_words[link];
-            if id == 0 {
-                return Child::Missing(link);
-            }
-            if count <= id as usize {
-                return Child::Damaged;
-            }
-            Child::Node(id)
+        ChildKey::Literal(hash) => {
+            seek_sibling(node_words, count, from * NODE_WORDS + LITERAL_CHILD, hash)
         }
+        ChildKey::Star => linked(node_words, count, from * NODE_WORDS + STAR_CHILD),
     }
 }
 
@@ -87,7 +104,7 @@ fn fresh(hash: u64, parent: u32) -> [u32; NODE_WORDS]
     let mut words = [0; NODE_WORDS];
     words[0] = (hash % WORD) as u32;
     words[1] = (hash / WORD) as u32;
-    words[12] = parent;
+    words[PARENT] = parent;
     words
 }
 

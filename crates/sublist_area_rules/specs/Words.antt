@@ -59,6 +59,12 @@ by_hash a h i = told (hash_is a i h)
 abbrev pub outside : List ℕ → ℕ → ℕ → Bool
 outside a n i = or (ltb (length a / 16) n) (leb n i)
 
+-- what the number in word `link` leads to, among n nodes: 0 to no node, and a number of no node is damage
+abbrev pub linked : List ℕ → ℕ → ℕ → Child
+linked a n link =
+    pick (eqb (get_or a link 0) 0) (Missing link)
+    (pick (leb n (get_or a link 0)) Damaged (Node (get_or a link 0)))
+
 -- the sibling that the test meets on the chain that starts in word `link`, among n nodes and within so many steps;
 -- `rest` is what is left of the hash sought to choose the way. Missing says in which word its number would stand.
 -- A chain that does not end within the steps is damaged, and so is a number of no node.
@@ -76,10 +82,7 @@ literal_child a n i h = pick (outside a n i) Damaged (seek (by_hash a h) a n h n
 
 -- the `*` child of node i
 unfoldable pub star_child : List ℕ → ℕ → ℕ → Child
-star_child a n i =
-    pick (outside a n i) Damaged
-    (pick (eqb (word a i 3) 0) (Missing (i * 16 + 3))
-    (pick (leb n (word a i 3)) Damaged (Node (word a i 3))))
+star_child a n i = pick (outside a n i) Damaged (linked a n (i * 16 + 3))
 
 -- the child of node i by a key
 abbrev pub child_of : List ℕ → ℕ → ℕ → Key ℕ → Child

@@ -3,17 +3,21 @@
 --
 --   in_length       one entry for each whole three
 --   three_read      what the threes of the numbers hold at a place, zeros past the last, is the entry there
+--   entry_put       an entry's numbers that are put at once in its place are the entry put there
 --   put_entries     an entry put among the numbers is put among the entries
 --   numbers_mean    insert_numbers on the numbers is insert_into on the entries that they hold
 use mathlib.Core.Path.{◌≡◌, refl, sym, ◌∙◌, ap}
 use mathlib.Core.Bool.{Bool, true, false}
 use mathlib.Core.List.{List, [], ◌∷◌}
-use Prim.Native.Nat.{ℕ, zero, suc, ◌*◌, ◌/◌, ◌%◌}
+use Prim.Native.Nat.{ℕ, zero, suc, ◌*◌, ◌/◌, ◌%◌, ◌<◌}
 use native.Mathlib.Omega.{arith}
 use lib.Dec.{leb}
 use lib.ListN.{length, get_or, set}
 use lib.Seq.{sets, set_out}
-use borrow.Author.Tests.{leb-true}
+use borrow.Author.Tests.{leb-true, lt-leb}
+use borrow.Rule.Slice.PartMut.{put_mid}
+use Rattle.std.proofs.lemmas.List.Edits.{sets-eq}
+use Rattle.std.proofs.lemmas.Slice.{put_mid-paste}
 use Rattle.std.proofs.Math.Nat.{mod-mod}
 use Rattle.std.specs.Simd.{first_chunks}
 use Rattle.subject_rules.specs.Choice.{pick}
@@ -96,3 +100,10 @@ numbers_mean list ws s t target =
     let new = put_entry ws list.entries (appended list t target) in
     ap (λ (es : List Entry). record { says = says; list = es; store = after_answer says (put s list.used t) s }) (through entries_in says new ws ∙ ap (λ (es : List Entry). after_answer says es (entries_in ws)) (put_entries (appended list t target) ws list.entries))
     ∙ ap (λ (n : ℕ). insert_by (insert_says list n (length s) t) (set (entries_in ws) list.entries (appended list t target)) (entries_in ws) (put s list.used t) s) (sym (in_length ws))
+
+-- an entry's numbers that are put at once in its place
+pub entry_put : (ws ys : List ℕ) (i k : ℕ) (e : Entry) → ys ≡ numbers_of e → k ≡ 3 → i < length ws / 3 → put_mid (3 * i) k ws ys ≡ put_entry ws i e
+unfolding put_entry
+entry_put ws ys i k e q s l =
+    rw (lt-leb (length ws / 3) i l)
+    (put_mid-paste (3 * i) k ws ys (numbers_of e) 3 q (sym s) refl ∙ sym (sets-eq (numbers_of e) ws (3 * i) (omega (arith, l))))

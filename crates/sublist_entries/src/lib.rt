@@ -100,6 +100,7 @@ impl EntryForm for Entry {
     }
 
     fn put(list: &mut [Entry], i: usize, e: Entry) {
+        // Kept: a proof knows no more of the list after `get_mut` than its length.
         if i < list.len() {
             list[i] = e;
         }
@@ -134,7 +135,7 @@ impl EntryForm for usize {
 
 // An entry's numbers are put where those of entry i belong: start, length, target.
 // Where the words have no such place, nothing is.
-#[tactic(auto, unfolding(crate::specs::Numbers::put_entry))]
+#[tactic(auto, using(crate::proofs::Numbered::entry_put), unfolding(crate::specs::Numbers::put_entry))]
 pub fn put_entry(words: &mut [usize], i: usize, e: Entry)
     ensures { words.new ≡ put_entry words.old i e }
 {
@@ -142,9 +143,7 @@ pub fn put_entry(words: &mut [usize], i: usize, e: Entry)
         return;
     }
     let at = ENTRY_NUMBERS * i;
-    words[at] = e.start;
-    words[at + 1] = e.length;
-    words[at + 2] = e.target as usize;
+    words[at..at + ENTRY_NUMBERS].copy_from_slice(&[e.start, e.length, e.target as usize]);
 }
 
 // Rules 1 to 9, then 10 and 11, for a list of so many places; an accepted pattern's text goes into the store.

@@ -12,7 +12,8 @@ use borrow.Author.Tests.{eq-eqb, ne_eqb}
 use Rattle.subject_rules.specs.Choice.{and}
 use Rattle.sublist_tree.specs.Tree.{Key, star, lit}
 use Rattle.sublist_tree.proofs.Sorting.{pick-push}
-use Rattle.sublist_tree.proofs.Order.{and_false}
+use Rattle.subject_rules.proofs.Booleans.{and_false}
+use Rattle.std.specs.Cmp.{booleans_Decides}
 use Rattle.sublist_trie.proofs.Trie.{Trie, root, grow, size, child}
 use Rattle.sublist_trie.proofs.Ends.{LineEnd, line_end, targets_at}
 use Rattle.sublist_original.specs.Original.{Outcome, Ok, NodeScratch, new_scratch, Arena, root_alone, push, push_literal, set_star, new_node, descend_literal, descend_star, push_terminal, push_gt_terminal}
@@ -43,13 +44,9 @@ targets-append j b [] fs = refl
 targets-append j b (line_end i t x ∷ es) fs =
     rw (targets-append j b es fs) (sym (pick-push (λ l. l ++ targets_at j b fs) (and (eqb i j) (beq t b)) (x ∷ targets_at j b es) (targets_at j b es)))
 
-beq_same : (b : Bool) → beq b b ≡ true
-beq_same true = refl
-beq_same false = refl
-
 targets_own : (j : ℕ) (b : Bool) (x : ℕ) → targets_at j b (line_end j b x ∷ []) ≡ x ∷ []
 unfolding targets_at
-targets_own j b x = rw (eq-eqb j j refl, beq_same b)
+targets_own j b x = rw (eq-eqb j j refl, (booleans_Decides b b).1 refl)
 
 targets-elsewhere : (j : ℕ) (b : Bool) (i : ℕ) (c : Bool) (x : ℕ) → (i ≡ j → ⊥) → targets_at j b (line_end i c x ∷ []) ≡ []
 unfolding targets_at

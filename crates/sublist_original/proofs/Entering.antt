@@ -25,6 +25,8 @@ use Rattle.sublist_trie.proofs.Runs.{size_pos, child_less}
 use Rattle.sublist_trie.proofs.Growth.{run_ins}
 use Rattle.sublist_original.specs.Original.{Outcome, Ok, ◌>>=◌, Arena, root_alone, push_gt_terminal, each_token, each_entry}
 use Rattle.sublist_original.specs.Entries.{pairs}
+use Rattle.subject_rules.proofs.Booleans.{and_false, and_true}
+use Rattle.sublist_rules.proofs.Composed.{from_most, ins_most, onto-target}
 use Rattle.sublist_original.proofs.Arenas.{Stands, stepped, descend, descend_there, joined, descend_new, stands_new, exact_more, tail_more, stands_root}
 
 -- ---- tests in the two spellings
@@ -32,14 +34,6 @@ use Rattle.sublist_original.proofs.Arenas.{Stands, stepped, descend, descend_the
 if_and : (w : Bool) (b : Bool) → (when w then b else false) ≡ and w b
 if_and true b = refl
 if_and false b = refl
-
-and_true : (w : Bool) → and w true ≡ w
-and_true true = refl
-and_true false = refl
-
-and_false : (w : Bool) → and w false ≡ false
-and_false true = refl
-and_false false = refl
 
 equal-star : (t : List ℕ) → equal t (WILDCARD_ONE ∷ []) ≡ is_star t
 equal-star [] = refl
@@ -151,9 +145,6 @@ Valid e = (n : ℕ) × (validate e.pattern true ≡ subject.Ok n)
 onto_depth : (k : Key ℕ) (l : Line ℕ) → depth_of (onto k l) ≡ suc (depth_of l)
 onto_depth k (line ks tail x) = refl
 
-onto-target : (k : Key ℕ) (l : Line ℕ) → target_of (onto k l) ≡ target_of l
-onto-target k (line ks tail x) = refl
-
 line_depth : (ts : List (List ℕ)) (x : ℕ) → (depth_of (line_of fnv ts x) ≤ length ts) × (target_of (line_of fnv ts x) ≡ x)
 line_depth [] x = (omega arith, refl)
 line_depth (t ∷ ts) x = go (is_tail t) (line_depth ts x)
@@ -196,23 +187,8 @@ unfolding ends_from
 ends_cons t (line ks tail x) ls = refl
 
 -- a run adds at most a node a key
-ins_most : (ks : List (Key ℕ)) (t : Trie ℕ) (i : ℕ) → size (ins_t eqb t i ks).0 ≤ size t + length ks
-unfolding ins_t
-ins_most [] t i = omega arith
-ins_most (k ∷ ks) t i = go (eqb (child eqb t i k) 0) (ins_most ks (grow t i k) (size t)) (ins_most ks t (child eqb t i k))
-  where
-    go : (b : Bool) → size (ins_t eqb (grow t i k) (size t) ks).0 ≤ size (grow t i k) + length ks → size (ins_t eqb t (child eqb t i k) ks).0 ≤ size t + length ks
-        → size (pick {A = Trie ℕ × ℕ} b (ins_t eqb (grow t i k) (size t) ks) (ins_t eqb t (child eqb t i k) ks)).0 ≤ size t + suc (length ks)
-    go true p q = omega (arith, size_grow t i k)
-    go false p q = omega arith
-
 line-most : (t : Trie ℕ) (l : Line ℕ) → size (ins_t eqb t 0 (keys_of l)).0 ≤ size t + depth_of l
 line-most t (line ks tail x) = ins_most ks t 0
-
-from_most : (ls : List (Line ℕ)) (t : Trie ℕ) → Within 32 ls → size (built_from eqb t ls) ≤ size t + 32 * length ls
-unfolding built_from
-from_most [] t w = omega arith
-from_most (l ∷ ls) t w = omega (arith, line-most t l, from_most ls (ins_t eqb t 0 (keys_of l)).0 w.1, w.0)
 
 joined-ends : (b : Arena ℕ) (u : Trie ℕ) (fs : List LineEnd) (f : LineEnd) (gs : List LineEnd) → Stands b u ((fs ++ (f ∷ [])) ++ gs) → Stands b u (fs ++ (f ∷ gs))
 joined-ends b u fs f gs s = rw (append_assoc fs (f ∷ []) gs) at s

@@ -43,7 +43,7 @@ accepted_all store [] a = tt
 accepted_all store (e ∷ es) a = (a.0.1, accepted_all store es a.1)
 
 -- a run adds at most a node a key
-ins_most : (ks : List (Key ℕ)) (t : Trie ℕ) (i : ℕ) → size (ins_t eqb t i ks).0 ≤ size t + length ks
+pub ins_most : (ks : List (Key ℕ)) (t : Trie ℕ) (i : ℕ) → size (ins_t eqb t i ks).0 ≤ size t + length ks
 unfolding ins_t size
 ins_most [] t i = omega arith
 ins_most (k ∷ ks) t i = go (eqb (child eqb t i k) 0) (ins_most ks (grow t i k) (size t)) (ins_most ks t (child eqb t i k))
@@ -53,12 +53,12 @@ ins_most (k ∷ ks) t i = go (eqb (child eqb t i k) 0) (ins_most ks (grow t i k)
     go true p q = omega arith
     go false p q = omega arith
 
-from_most : (ls : List (Line ℕ)) (t : Trie ℕ) → Within 32 ls → size (built_from eqb t ls) ≤ size t + 32 * length ls
+pub from_most : (ls : List (Line ℕ)) (t : Trie ℕ) → Within 32 ls → size (built_from eqb t ls) ≤ size t + 32 * length ls
 unfolding built_from
 from_most [] t w = omega arith
 from_most (line ks tail x ∷ ls) t w = omega (arith, ins_most ks t 0, from_most ls (ins_t eqb t 0 ks).0 w.1, w.0)
 
-onto-target : (k : Key ℕ) (l : Line ℕ) → target_of (onto k l) ≡ target_of l
+pub onto-target : (k : Key ℕ) (l : Line ℕ) → target_of (onto k l) ≡ target_of l
 onto-target k (line ks tail x) = refl
 
 line-target : (ts : List (List ℕ)) (x : ℕ) → target_of (line_of fnv ts x) ≡ x

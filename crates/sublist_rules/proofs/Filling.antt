@@ -9,6 +9,7 @@ use lib.Dec.{eqb}
 use lib.ListN.{length, set, get_or, length-set}
 use lib.Seq.{get_or-set_same, get_or-set_other}
 use borrow.Author.Tests.{eqb-true, eqb-false, eq-eqb}
+use Rattle.std.specs.Cmp.{booleans_Decides}
 use Rattle.subject_rules.specs.Choice.{pick, and}
 use Rattle.sublist_tree.specs.Lists.{All}
 use Rattle.sublist_area_rules.specs.Words.{word}
@@ -35,26 +36,16 @@ pick_ends i b (e ∷ es) (x ∷ xs) = pick (end_is_lem e i b) (x ∷ pick_ends i
 abbrev pub node_of : End → ℕ
 node_of (end j tail) = j
 
-beq_true : (b c : Bool) → beq b c ≡ true → b ≡ c
-beq_true true true e = refl
-beq_true true false e = let z : ◌≡◌ {A = ℕ} 0 1 = cc in absurd (omega arith)
-beq_true false true e = let z : ◌≡◌ {A = ℕ} 0 1 = cc in absurd (omega arith)
-beq_true false false e = refl
-
-beq_same : (b : Bool) → beq b b ≡ true
-beq_same true = refl
-beq_same false = refl
-
 -- an end that is node i's
 pub end_is : (j : ℕ) (tail : Bool) (i : ℕ) (b : Bool) → end_is_lem (end j tail) i b ≡ true → (j ≡ i) × (tail ≡ b)
 end_is j tail i b e = go (eqb j i) refl e
   where
     go : (c : Bool) → eqb j i ≡ c → and c (beq tail b) ≡ true → (j ≡ i) × (tail ≡ b)
-    go true q e = (eqb-true j i q, beq_true tail b e)
+    go true q e = (eqb-true j i q, (booleans_Decides tail b).0 e)
     go false q e = let z : ◌≡◌ {A = ℕ} 0 1 = cc in absurd (omega arith)
 
 pub end_own : (j : ℕ) (tail : Bool) → end_is_lem (end j tail) j tail ≡ true
-end_own j tail = rw (eq-eqb j j refl, beq_same tail) refl
+end_own j tail = rw (eq-eqb j j refl, (booleans_Decides tail tail).1 refl) refl
 
 -- the words that count and start are told apart
 count-start : (b c : Bool) → count_word b ≡ start_word c → ⊥
@@ -97,7 +88,7 @@ counted_other a j tail i b e = go (eqb j i) refl e
     go : (c : Bool) → eqb j i ≡ c → and c (beq tail b) ≡ false → word (set a (j * 16 + count_word tail) ((word a j (count_word tail) + 1) % 4294967296)) i (count_word b) ≡ word a i (count_word b)
     go true q e =
         word_field a j (count_word tail) ((word a j (count_word tail) + 1) % 4294967296) i (count_word b) (count_small tail) (count_small b)
-        (count-apart tail b (λ s. let t : beq tail b ≡ true = subst (λ x. beq tail x ≡ true) s (beq_same tail) in let z : ◌≡◌ {A = ℕ} 0 1 = cc in omega arith))
+        (count-apart tail b (λ s. let t : beq tail b ≡ true = subst (λ x. beq tail x ≡ true) s ((booleans_Decides tail tail).1 refl) in let z : ◌≡◌ {A = ℕ} 0 1 = cc in omega arith))
     go false q e = word_node a j (count_word tail) ((word a j (count_word tail) + 1) % 4294967296) i (count_word b) (count_small tail) (count_small b) (eqb-false j i q)
 
 -- words that are no count stay

@@ -1,6 +1,5 @@
 -- A match through the snapshot reads the two parts of its area: the words of the standing table's nodes and its targets, as far as the area goes.
-use Rattle.std.proofs.Common.{◌≡◌, ℕ, zero, suc, ◌*◌, min, false, List, [], ◌∷◌, length, take, drop, Result, Ok, Err, sym, refl, ap, ◌∙◌, ⊎_elim, arith, drop_of_length-le, take_all}
-use Rattle.std.proofs.lemmas.Bool.{cases_lt}
+use Rattle.std.proofs.Common.{◌≡◌, ℕ, zero, suc, false, List, [], ◌∷◌, Result, Ok, Err, sym, refl, ap, ◌∙◌, arith}
 use Rattle.subject.specs.declared.SubjectError.{SubjectError}
 use Rattle.subject_rules.specs.Answers.{Answer, answer, when_accepted}
 use Rattle.subject.specs.Answers.{refusal, parsed}
@@ -17,19 +16,6 @@ use Rattle.sublist_snapshot.specs.declared.Generation.{Generation}
 use Rattle.sublist_snapshot.specs.declared.Snapshot.{Snapshot}
 use Rattle.sublist_snapshot.specs.Snapshot.{nodes_in, targets_in, with_generation, match_in, match_parsed_in}
 
--- as far as the list goes is all of it
-take_min : (n : ℕ) (l : List ℕ) → take (min n (length l)) l ≡ take n l
-take_min n l =
-    ⊎_elim (λ h. ap (λ k. take k l) (let q : min n (length l) ≡ n = omega arith in q))
-    (λ h. take_all (min n (length l)) l (omega arith) ∙ sym (take_all n l h))
-    (cases_lt n (length l))
-
-drop_min : (n : ℕ) (l : List ℕ) → drop (min n (length l)) l ≡ drop n l
-drop_min n l =
-    ⊎_elim (λ h. ap (λ k. drop k l) (let q : min n (length l) ≡ n = omega arith in q))
-    (λ h. drop_of_length-le l {i = min n (length l)} (omega arith) ∙ sym (drop_of_length-le l {i = n} h))
-    (cases_lt n (length l))
-
 -- a refusal gains no generation
 stays : (g : Generation) (y : Answer) (out : List ℕ) → ((after : Answer) → y ≡ when_accepted y after) → with_generation g (outcome y out) ≡ outcome y out
 stays g (answer zero values) out h = let e = h (answer 1 []) in let z : ◌≡◌ {A = ℕ} 0 1 = cc in absurd (omega arith)
@@ -40,32 +26,19 @@ refusal_stays g (Invalid e) out = stays g (refusal e) out (λ after. refused_sta
 refusal_stays g Damaged out = refl
 refusal_stays g (OutShort needed) out = refl
 
--- the area is split behind `front` words, and of the rest `size` words are the targets'
-module _ (s : Snapshot) (area nodes rest : List ℕ) (front size : ℕ) (f : front ≡ min (s.nodes * 16) (length area)) (a : nodes ≡ take front area) (b : rest ≡ drop front area)
-    (z : size ≡ min s.targets (length rest)) where
-  nodes-part : nodes ≡ nodes_in s.nodes area
-  nodes-part = a ∙ ap (λ k. take k area) f ∙ take_min (s.nodes * 16) area
+-- what a match of the standing table, by its counts and its two parts, answers with the generation
+module _ (s : Snapshot) (area subject out left : List ℕ) (n m : ℕ) (nodes targets : List ℕ) (r : Result TableMatch MatchError)
+    (parts : (n ≡ s.nodes) × (m ≡ s.targets) × (nodes ≡ nodes_in s.nodes area) × (targets ≡ targets_in s.nodes s.targets area))
+    (e : outcome (match_answer r) left ≡ match_parsed n m nodes targets subject out) where
+  through : with_generation s.generation (outcome (match_answer r) left) ≡ match_parsed_in s area subject out
+  unfolding match_parsed_in
+  through = ap (with_generation s.generation) (rw (parts.0, parts.1, parts.2, parts.3) at e)
 
-  targets-part : take size rest ≡ targets_in s.nodes s.targets area
-  targets-part = ap (λ k. take k rest) z ∙ take_min s.targets rest ∙ ap (take s.targets) (b ∙ ap (λ k. drop k area) f ∙ drop_min (s.nodes * 16) area)
+  pub through_found : (m : TableMatch) → r ≡ Ok m → outcome (answer 0 (m.count ∷ m.peak ∷ s.generation.0 ∷ [])) left ≡ match_parsed_in s area subject out
+  through_found m q = rw q at through
 
-  -- what a match on the two parts answers, with the generation
-  module _ (subject out left : List ℕ) (r : Result TableMatch MatchError)
-      (e : outcome (match_answer r) left ≡ match_parsed s.nodes s.targets nodes (take size rest) subject out) where
-    through : with_generation s.generation (outcome (match_answer r) left) ≡ match_parsed_in s area subject out
-    unfolding match_parsed_in
-    through =
-        ap (with_generation s.generation) (
-        e
-        ∙ ap (λ x. match_parsed s.nodes s.targets x (take size rest) subject out) nodes-part
-        ∙ ap (λ ts. match_parsed s.nodes s.targets (nodes_in s.nodes area) ts subject out) targets-part
-        )
-
-    pub through_found : (m : TableMatch) → r ≡ Ok m → outcome (answer 0 (m.count ∷ m.peak ∷ s.generation.0 ∷ [])) left ≡ match_parsed_in s area subject out
-    through_found m q = rw q at through
-
-    pub through_refused : (why : MatchError) → r ≡ Err why → outcome (match_refusal why) left ≡ match_parsed_in s area subject out
-    through_refused why q = sym (refusal_stays s.generation why left) ∙ (rw q at through)
+  pub through_refused : (why : MatchError) → r ≡ Err why → outcome (match_refusal why) left ≡ match_parsed_in s area subject out
+  through_refused why q = sym (refusal_stays s.generation why left) ∙ (rw q at through)
 
 -- for an accepted subject it is the match
 pub parsed_match : (s : Snapshot) (area subject out values : List ℕ) → grammar false subject ≡ answer 0 values

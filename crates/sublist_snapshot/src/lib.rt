@@ -5,7 +5,7 @@
 ghost use Rattle.std.specs.Prelude.{◌≡◌, OnOk, OnErr};
 ghost use Rattle.subject_rules.specs.Outputs.{outcome};
 ghost use Rattle.sublist_snapshot.specs.Snapshot.{refused_table, copied, make, make_empty, store_in};
-ghost use Rattle.sublist_snapshot.specs.Snapshot.{stands_in, match_in, match_parsed_in};
+ghost use Rattle.sublist_snapshot.specs.Snapshot.{nodes_in, targets_in, stands_in, match_in, match_parsed_in};
 ghost use Rattle.sublist_snapshot.specs.Answers.{snapshot_answer, lent_table, made, left_stored};
 ghost use Rattle.sublist_snapshot.specs.Copying.{lent, copy_refusal};
 
@@ -26,6 +26,7 @@ pub struct Sublist {
 }
 
 // The standing table's counts and generation, and the generation that the next store stamps.
+// Kept: C lends these four numbers side by side, so the fields of `Sublist` stand here once more.
 #[derive(Clone, Copy)]
 pub struct Snapshot {
     pub nodes: usize,
@@ -173,7 +174,25 @@ impl Snapshot {
         }
     }
 
+    // The standing table with its words in the area, or with what the area has of them.
+    fn table_in<'a>(self, area: &'a [u32]) -> Table<'a>
+        ensures { (result.nodes ≡ self.nodes)
+            × (result.targets ≡ self.targets)
+            × (result.node_words.now ≡ nodes_in self.nodes area.now)
+            × (result.target_words.now ≡ targets_in self.nodes self.targets area.now) }
+    {
+        let front = self.nodes.saturating_mul(NODE_WORDS).min(area.len());
+        let (node_words, rest) = area.split_at(front);
+        Table {
+            nodes: self.nodes,
+            targets: self.targets,
+            node_words,
+            target_words: &rest[..self.targets.min(rest.len())],
+        }
+    }
+
     // 19 on the counts: there is a node, and the standing table is no longer than the area.
+    // Kept: `counts_fit` of `table_in` proves, and takes 4.8 ns where this takes 2.3, at each hit of a cache.
     pub fn stands_in(self, area: &[u32]) -> bool
         ensures { result ≡ stands_in self area.now }
     {
@@ -209,15 +228,7 @@ impl Snapshot {
         ensures { outcome (snapshot_answer result) out.new
             ≡ match_parsed_in self area.now subject.now out.old }
     {
-        let front = self.nodes.saturating_mul(NODE_WORDS).min(area.len());
-        let (node_words, rest) = area.split_at(front);
-        let table = Table {
-            nodes: self.nodes,
-            targets: self.targets,
-            node_words,
-            target_words: &rest[..self.targets.min(rest.len())],
-        };
-        let found = sublist_walk::match_parsed(&table, subject, out)?;
+        let found = sublist_walk::match_parsed(&self.table_in(area), subject, out)?;
         Ok(SnapshotMatch {
             count: found.count,
             peak: found.peak,

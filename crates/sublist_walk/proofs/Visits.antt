@@ -29,7 +29,7 @@ joined s s1 s2 next next1 count count1 i j r out now after p w v e = record {
 }
 
 -- a level whose list comes behind another
-unfoldable behind : List ℕ → Level → Level
+unfoldable pub behind : List ℕ → Level → Level
 behind l (level next list) = level next (l ++ list)
 behind l (broken why) = broken why
 
@@ -140,104 +140,84 @@ module _ (k : ℕ) (a : List ℕ) (n m : ℕ) (ts : List ℕ) (h : ℕ) where
       visit_through next (l ++ list) i ∙ behind_append l list (visit k a n m ts h (level next []) i) ∙ ap (behind l) (sym (visit_through next list i))
   visit_through_all l (broken why) i = refl
 
-  visits_through : (l : List ℕ) (s : Level) (is : List ℕ) → visits k a n m ts h (behind l s) is ≡ behind l (visits k a n m ts h s is)
-  unfolding visits
-  visits_through l s [] = refl
-  visits_through l s (i ∷ is) = rw (visit_through_all l s i) (visits_through l (visit k a n m ts h s i) is)
-
-  visits_with : (list is : List ℕ) → visits k a n m ts h (level [] list) is ≡ behind list (visits k a n m ts h (level [] []) is)
-  unfolding behind
-  visits_with list is = rw append-nil at (visits_through list (level [] []) is)
-
-  -- a whole frontier, behind a list
-  module _ (list is : List ℕ) where
-    pub all_failed : (why : Failure) → visits k a n m ts h (level [] []) is ≡ broken why → visits k a n m ts h (level [] list) is ≡ broken why
-    unfolding behind
-    all_failed why e = visits_with list is ∙ rw e
-
-    pub all_on : (next new : List ℕ) → visits k a n m ts h (level [] []) is ≡ level next new → visits k a n m ts h (level [] list) is ≡ level next (list ++ new)
-    unfolding behind
-    all_on next new e = visits_with list is ∙ rw e
-
-  visits-append : (s : Level) (is js : List ℕ) → visits k a n m ts h s (is ++ js) ≡ visits k a n m ts h (visits k a n m ts h s is) js
-  unfolding visits
-  visits-append s [] js = refl
-  visits-append s (i ∷ is) js = visits-append (visit k a n m ts h s i) is js
-
-  visits-failed : (why : Failure) (is : List ℕ) → visits k a n m ts h (broken why) is ≡ broken why
-  unfolding visits visit collect push
-  visits-failed why [] = refl
-  visits-failed why (i ∷ is) = visits-failed why is
-
-  -- the first i nodes of a frontier give a level; then the next one
-  module _ (l next : List ℕ) (count i : ℕ) (out now : List ℕ) (w : Added (visits k a n m ts h (level [] []) (take i l)) next count i out now) (q : i < length l) where
-    visits-next : visits k a n m ts h (level [] []) (take (i + 1) l) ≡ behind w.list (visit k a n m ts h (level next []) (get_or l i 0))
-    unfolding visits
-    visits-next =
-        rw (add-one i, take-suc l i 0 q, visits-append (level [] []) (take i l) (get_or l i 0 ∷ []), w.is) (visit_through next w.list (get_or l i 0))
-
-    pub next_on : (next1 : List ℕ) (count1 r : ℕ) (after : List ℕ) → r ≡ min (length now) count
-        → Added (visit k a n m ts h (level next []) (get_or l i 0)) next1 count1 1 (take (length now - r) (drop r now)) after
-        → Added (visits k a n m ts h (level [] []) (take (i + 1) l)) next1 (count + count1) (i + 1) out (put_mid r (length now - r) now after)
-    unfolding behind
-    next_on next1 count1 r after p v = joined _ _ _ next next1 count count1 i 1 r out now after p w v (visits-next ∙ rw v.is)
-
-    pub next_failed : (why : Failure) → visit k a n m ts h (level next []) (get_or l i 0) ≡ broken why → visits k a n m ts h (level [] []) l ≡ broken why
-    unfolding visits behind
-    next_failed why e =
-        ap (visits k a n m ts h (level [] [])) (split_at l i 0 q)
-        ∙ visits-append (level [] []) (take i l) (get_or l i 0 ∷ drop (suc i) l)
-        ∙ ap (λ s. visits k a n m ts h (visit k a n m ts h s (get_or l i 0)) (drop (suc i) l)) w.is
-        ∙ ap (λ s. visits k a n m ts h s (drop (suc i) l)) (visit_through next w.list (get_or l i 0))
-        ∙ rw e (visits-failed why (drop (suc i) l))
+  visit_broken : (why : Failure) (i : ℕ) → visit k a n m ts h (broken why) i ≡ broken why
+  unfolding visit collect push
+  visit_broken why i = refl
 
 pub ruleset one_node = (visit_outside, visit_first, visit_second, visit_on)
 
-module _ (k : ℕ) (a : List ℕ) (n m : ℕ) (ts : List ℕ) where
-  exact-append : (s : Level) (is js : List ℕ) → exact k a n m ts s (is ++ js) ≡ exact k a n m ts (exact k a n m ts s is) js
-  unfolding exact
-  exact-append s [] js = refl
-  exact-append s (i ∷ is) js = exact-append (collect a m ts 4 i s) is js
+-- a step of one node, which lists behind what is listed, and the steps of several nodes in turn
+pub record Turns (step : Level → ℕ → Level) (steps : Level → List ℕ → Level) : Type 0 where
+  pub none : (s : Level) → steps s [] ≡ s
+  pub more : (s : Level) (i : ℕ) (is : List ℕ) → steps s (i ∷ is) ≡ steps (step s i) is
+  pub breaks : (why : Failure) (i : ℕ) → step (broken why) i ≡ broken why
+  pub passes : (l : List ℕ) (s : Level) (i : ℕ) → step (behind l s) i ≡ behind l (step s i)
 
-  exact-broken : (why : Failure) (is : List ℕ) → exact k a n m ts (broken why) is ≡ broken why
-  unfolding exact collect
-  exact-broken why [] = refl
-  exact-broken why (i ∷ is) = exact-broken why is
+-- the nodes of a frontier with a token's hash
+pub visiting : (k : ℕ) (a : List ℕ) (n m : ℕ) (ts : List ℕ) (h : ℕ) → Turns (visit k a n m ts h) (visits k a n m ts h)
+unfolding visits
+visiting k a n m ts h = record {
+  none = λ s. refl;
+  more = λ s i is. refl;
+  breaks = visit_broken k a n m ts h;
+  passes = visit_through_all k a n m ts h;
+}
 
-  exact_through : (l : List ℕ) (s : Level) (is : List ℕ) → exact k a n m ts (behind l s) is ≡ behind l (exact k a n m ts s is)
-  unfolding exact
-  exact_through l s [] = refl
-  exact_through l s (i ∷ is) = rw (collect_through a m ts 4 i l s) (exact_through l (collect a m ts 4 i s) is)
+-- the exact targets of the nodes of a frontier
+pub collecting : (k : ℕ) (a : List ℕ) (n m : ℕ) (ts : List ℕ) → Turns (λ s i. collect a m ts 4 i s) (exact k a n m ts)
+unfolding exact collect
+collecting k a n m ts = record {
+  none = λ s. refl;
+  more = λ s i is. refl;
+  breaks = λ why i. refl;
+  passes = λ l s i. collect_through a m ts 4 i l s;
+}
 
-  exact_with : (list is : List ℕ) → exact k a n m ts (level [] list) is ≡ behind list (exact k a n m ts (level [] []) is)
+module _ (step : Level → ℕ → Level) (steps : Level → List ℕ → Level) (t : Turns step steps) where
+  steps-append : (s : Level) (is js : List ℕ) → steps s (is ++ js) ≡ steps (steps s is) js
+  steps-append s [] js = rw (t.none s) refl
+  steps-append s (i ∷ is) js = rw (t.more s i (is ++ js), t.more s i is) (steps-append (step s i) is js)
+
+  steps-failed : (why : Failure) (is : List ℕ) → steps (broken why) is ≡ broken why
+  steps-failed why [] = t.none (broken why)
+  steps-failed why (i ∷ is) = rw (t.more (broken why) i is, t.breaks why i) (steps-failed why is)
+
+  steps-through : (l : List ℕ) (s : Level) (is : List ℕ) → steps (behind l s) is ≡ behind l (steps s is)
+  steps-through l s [] = rw (t.none (behind l s), t.none s) refl
+  steps-through l s (i ∷ is) = rw (t.more (behind l s) i is, t.more s i is, t.passes l s i) (steps-through l (step s i) is)
+
+  steps-with : (next list is : List ℕ) → steps (level next list) is ≡ behind list (steps (level next []) is)
   unfolding behind
-  exact_with list is = rw append-nil at (exact_through list (level [] []) is)
+  steps-with next list is = rw append-nil at (steps-through list (level next []) is)
 
-  -- behind a list
+  -- a whole frontier, behind a list
   module _ (list is : List ℕ) where
-    pub exact-listed : (new : List ℕ) → exact k a n m ts (level [] []) is ≡ level [] new → exact k a n m ts (level [] list) is ≡ level [] (list ++ new)
+    pub all_failed : (why : Failure) → steps (level [] []) is ≡ broken why → steps (level [] list) is ≡ broken why
     unfolding behind
-    exact-listed new e = exact_with list is ∙ rw e
+    all_failed why e = steps-with [] list is ∙ rw e
 
-    pub exact-failed : (why : Failure) → exact k a n m ts (level [] []) is ≡ broken why → exact k a n m ts (level [] list) is ≡ broken why
+    pub all_on : (next new : List ℕ) → steps (level [] []) is ≡ level next new → steps (level [] list) is ≡ level next (list ++ new)
     unfolding behind
-    exact-failed why e = exact_with list is ∙ rw e
+    all_on next new e = steps-with [] list is ∙ rw e
 
-  -- the exact targets of the first i nodes of a frontier; then of the next one
-  module _ (l : List ℕ) (count i : ℕ) (out now : List ℕ) (w : Added (exact k a n m ts (level [] []) (take i l)) [] count i out now) (q : i < length l) where
-    pub exact_on : (count1 r : ℕ) (after : List ℕ) → r ≡ min (length now) count
-        → Added (collect a m ts 4 (get_or l i 0) (level [] [])) [] count1 1 (take (length now - r) (drop r now)) after
-        → Added (exact k a n m ts (level [] []) (take (i + 1) l)) [] (count + count1) (i + 1) out (put_mid r (length now - r) now after)
-    unfolding exact
-    exact_on count1 r after p v =
-        joined _ _ _ [] [] count count1 i 1 r out now after p w v
-        (rw (add-one i, take-suc l i 0 q, exact-append (level [] []) (take i l) (get_or l i 0 ∷ []), w.is) (collect-new a m ts 4 (get_or l i 0) [] w.list v.list v.is))
+  -- the first i nodes of a frontier give a level; then the next one
+  module _ (l next : List ℕ) (count i : ℕ) (out now : List ℕ) (w : Added (steps (level [] []) (take i l)) next count i out now) (q : i < length l) where
+    first-behind : (js : List ℕ) → steps (level [] []) (take i l ++ get_or l i 0 ∷ js) ≡ steps (behind w.list (step (level next []) (get_or l i 0))) js
+    unfolding behind
+    first-behind js =
+        steps-append (level [] []) (take i l) (get_or l i 0 ∷ js) ∙ ap (λ s. steps s (get_or l i 0 ∷ js)) w.is
+        ∙ t.more (level next w.list) (get_or l i 0) js ∙ ap (λ s. steps s js) (rw append-nil at (t.passes w.list (level next []) (get_or l i 0)))
 
-    pub exact_outside : (why : Failure) → collect a m ts 4 (get_or l i 0) (level [] []) ≡ broken why → exact k a n m ts (level [] []) l ≡ broken why
-    unfolding exact
-    exact_outside why e =
-        ap (exact k a n m ts (level [] [])) (split_at l i 0 q)
-        ∙ exact-append (level [] []) (take i l) (get_or l i 0 ∷ drop (suc i) l)
-        ∙ ap (λ s. exact k a n m ts (collect a m ts 4 (get_or l i 0) s) (drop (suc i) l)) w.is
-        ∙ ap (λ s. exact k a n m ts s (drop (suc i) l)) (outside_too a m ts 4 (get_or l i 0) [] w.list why e)
-        ∙ exact-broken why (drop (suc i) l)
+    pub next_on : (next1 : List ℕ) (count1 r : ℕ) (after : List ℕ) → r ≡ min (length now) count
+        → Added (step (level next []) (get_or l i 0)) next1 count1 1 (take (length now - r) (drop r now)) after
+        → Added (steps (level [] []) (take (i + 1) l)) next1 (count + count1) (i + 1) out (put_mid r (length now - r) now after)
+    unfolding behind
+    next_on next1 count1 r after p v =
+        joined _ _ _ next next1 count count1 i 1 r out now after p w v
+        (rw (add-one i, take-suc l i 0 q) (first-behind [] ∙ t.none _ ∙ rw v.is))
+
+    pub next_failed : (why : Failure) → step (level next []) (get_or l i 0) ≡ broken why → steps (level [] []) l ≡ broken why
+    unfolding behind
+    next_failed why e =
+        ap (steps (level [] [])) (split_at l i 0 q) ∙ first-behind (drop (suc i) l)
+        ∙ rw e (steps-failed why (drop (suc i) l))

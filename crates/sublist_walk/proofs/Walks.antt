@@ -9,7 +9,7 @@ use Rattle.sublist_walk_rules.specs.Walk.{level, broken, at, stuck, Walked, fail
 use Rattle.sublist_walk_rules.specs.declared.Failure.{Failure}
 use Rattle.sublist_walk.specs.Told.{Added, Finds}
 use Rattle.sublist_walk.proofs.Stores.{behind_stored}
-use Rattle.sublist_walk.proofs.Visits.{all_failed, all_on, exact-listed, exact-failed}
+use Rattle.sublist_walk.proofs.Visits.{visiting, collecting, all_failed, all_on}
 use Rattle.sublist_walk_rules.proofs.Narrow.{exact-any}
 
 -- a frontier, and the list and the peak so far: with the hashes left the walk ends with w; at most 2^42 targets are listed for each token
@@ -79,14 +79,14 @@ module _ (k : ℕ) (a : List ℕ) (n m : ℕ) (ts : List ℕ) where
 
       pub ends-failed : (why : Failure) → exact 0 a 0 m ts (level [] []) front ≡ broken why → w ≡ failed why
       unfolding listed
-      ends-failed why e = sym last ∙ rw (exact-failed k a n m ts u.list front why (exact-any k a n m ts (level [] []) front ∙ e))
+      ends-failed why e = sym last ∙ rw (all_failed _ _ (collecting k a n m ts) u.list front why (exact-any k a n m ts (level [] []) front ∙ e))
 
       pub ends_found : (count1 i r : ℕ) (after : List ℕ) → r ≡ min (length now) count
           → Added (exact 0 a 0 m ts (level [] []) front) [] count1 i (take (length now - r) (drop r now)) after → Finds w (count + count1) peak out (put_mid r (length now - r) now after)
       unfolding listed
       ends_found count1 i r after p v = record {
         list = u.list ++ v.list;
-        is = sym last ∙ rw (exact-listed k a n m ts u.list front v.list (exact-any k a n m ts (level [] []) front ∙ v.is));
+        is = sym last ∙ rw (all_on _ _ (collecting k a n m ts) u.list front [] v.list (exact-any k a n m ts (level [] []) front ∙ v.is));
         counts = rw (length-append u.list v.list) (let x = u.counts in let y = v.counts in omega arith);
         stored = behind_stored out u.list v.list now after r (rw u.counts at p) u.stored v.stored;
       }
@@ -99,7 +99,7 @@ module _ (k : ℕ) (a : List ℕ) (n m : ℕ) (ts : List ℕ) where
 
       pub goes_wrong : (why : Failure) → visits k a n m ts h (level [] []) front ≡ broken why → w ≡ failed why
       unfolding arrived ended
-      goes_wrong why e = sym next ∙ rw (all_failed k a n m ts h u.list front why e, tokens-stuck why rest)
+      goes_wrong why e = sym next ∙ rw (all_failed _ _ (visiting k a n m ts h) u.list front why e, tokens-stuck why rest)
 
       pub goes_on : (front1 : List ℕ) (peak1 count1 r : ℕ) (after : List ℕ) → r ≡ min (length now) count
           → Added (visits k a n m ts h (level [] []) front) front1 count1 1024 (take (length now - r) (drop r now)) after
@@ -109,7 +109,7 @@ module _ (k : ℕ) (a : List ℕ) (n m : ℕ) (ts : List ℕ) where
           let e : peak1 ≡ max peak (length front1) = omega arith in
           record {
             list = u.list ++ v.list;
-            same = rw e (rw (all_on k a n m ts h u.list front front1 v.list v.is) at next);
+            same = rw e (rw (all_on _ _ (visiting k a n m ts h) u.list front front1 v.list v.is) at next);
             counts = rw (length-append u.list v.list) (let x = u.counts in let y = v.counts in omega arith);
             most = let x = u.most in let y = v.most in let z = ap length some in omega arith;
             stored = behind_stored out u.list v.list now after r (rw u.counts at p) u.stored v.stored;

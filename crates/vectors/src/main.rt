@@ -26,12 +26,7 @@ fn row(
     first: u64,
     second: u64,
 ) -> io::Result<()> {
-    let right = CAnswer {
-        number,
-        first,
-        second,
-        third: 0,
-    };
+    let right = CAnswer::new(number, &[first, second]);
     let said = verdict(got == right);
     println!(rt;
         "{name}: {} {} {}, {said}",
@@ -62,7 +57,7 @@ fn made_row(
     got: CMadeText,
     right: CMadeText,
 ) -> io::Result<()> {
-    let said = verdict(got == right);
+    let said = verdict(got.value == right.value && got.state == right.state);
     print!(rt; "{name}: ")?;
     rt.write_all(out)?;
     println!(rt; " {} {} {}, {said}", got.number, got.value, got.state)
@@ -95,6 +90,8 @@ const RUN_BYTES: usize = 19;
 
 const RUNS: usize = 1024;
 
+const RUN_NUMBERS: usize = RUNS * 3;
+
 const ENTRIES: usize = RUNS + 2;
 
 const ENTRY_NUMBERS: usize = ENTRIES * 3;
@@ -126,6 +123,7 @@ impl List {
         }
     }
 
+    // The list is then what the answer says of it.
     fn insert(&mut self, pattern: &[u8], target: u32) -> CAnswer {
         let done = router_insert(
             self.entries,
@@ -135,10 +133,8 @@ impl List {
             pattern,
             target,
         );
-        if done.number == 0 {
-            self.entries = done.first as usize;
-            self.used = done.second as usize;
-        }
+        self.entries = done.first as usize;
+        self.used = done.second as usize;
         done
     }
 
@@ -151,10 +147,10 @@ impl List {
         last
     }
 
-    fn build(&mut self) -> CAnswer {
-        let end = self.entries.saturating_mul(3).min(ENTRY_NUMBERS);
+    // The table of the first so many numbers.
+    fn build(&mut self, numbers: usize) -> CAnswer {
         router_build(
-            &self.words[..end],
+            &self.words[..numbers.min(ENTRY_NUMBERS)],
             &self.store,
             &mut self.nodes,
             &mut self.targets,
@@ -187,7 +183,7 @@ fn runs(rt: &impl Print) -> io::Result<()> {
     row(
         rt,
         "their table, nodes and worst case",
-        list.build(),
+        list.build(RUN_NUMBERS),
         0,
         2047,
         1024,
@@ -205,7 +201,7 @@ fn runs(rt: &impl Print) -> io::Result<()> {
     row(
         rt,
         "the table with these, worst case and limit",
-        list.build(),
+        list.build(ENTRY_NUMBERS),
         16,
         1025,
         1024,

@@ -1,5 +1,5 @@
 -- What each way through a move makes of `whole_move`.
-use Rattle.std.proofs.Common.{◌≡◌, ℕ, suc, ◌/◌, ◌≤◌, ◌<◌, true, false, List, [], ◌∷◌, ◌++◌, length, map, take, drop, Option, None, Some, Result, Ok, Err, refl, sym, ◌∙◌, ap, arith, lt-ltb, le-ltb}
+use Rattle.std.proofs.Common.{◌≡◌, ℕ, suc, ◌/◌, ◌≤◌, ◌<◌, true, false, List, [], ◌∷◌, ◌++◌, length, map, take, drop, Result, Ok, Err, refl, sym, ◌∙◌, ap, arith, lt-ltb, le-ltb}
 use Rattle.std.specs.Simd.{first_chunks}
 use Rattle.std.proofs.lemmas.List.{length-map, length-take-le}
 use Rattle.std.proofs.Math.Option.{none, some}
@@ -7,11 +7,12 @@ use Rattle.sublist_snapshot.specs.declared.Snapshot.{Snapshot}
 use Rattle.sublist_snapshot.specs.Snapshot.{stands_in, walk_of}
 use Rattle.binding.specs.declared.Resolution.{Resolution}
 use Rattle.whole_move_rules.specs.Move.{spans_in, text_at, bad_subjects, routes, written, whole_move}
+use Rattle.whole_move.specs.declared.WholeMove.{WholeMove}
 use Rattle.whole_move.specs.declared.WholeMove.TheVariants.{Routed, Stopped}
 use Rattle.whole_move.specs.declared.MoveError.{MoveError}
 use Rattle.whole_move.specs.declared.MoveError.TheVariants.{SetTooLarge, Damaged, OutShort}
 use Rattle.whole_move.specs.Answers.{move_refusal, moved}
-use Rattle.whole_move.specs.Told.{span_of, told}
+use Rattle.whole_move.specs.Told.{span_of, Within, told}
 
 -- the pairs that numbers make are the spans that they hold
 listed : (ws : List ℕ) → map span_of (first_chunks 2 (length ws / 2) ws) ≡ spans_in ws
@@ -44,9 +45,9 @@ module _ (s : Snapshot) (area bytes ws : List ℕ) (spans : List (List ℕ)) (fr
       move_damaged f = rw (size, le-ltb 64 (length spans) few, ← held, ← sound, f)
 
       -- r is what the verdicts came to, with the targets gathered at the front of ts
-      module _ (stands : stands_in s area ≡ true) (ts : List ℕ) (r : Result (Option (ℕ × Resolution)) MoveError)
-          (e : told r (take (length spans) ts) ≡ routes (walk_of s area) 0 (map (text_at bytes) (map span_of spans))) where
-        move_told : written (told r (take (length spans) ts)) out ≡ whole_move s area bytes (spans_in ws) out
+      module _ (stands : stands_in s area ≡ true) (ts : List ℕ) (r : Result WholeMove MoveError)
+          (e : told r ts ≡ routes (walk_of s area) 0 (map (text_at bytes) (map span_of spans))) where
+        move_told : written (told r ts) out ≡ whole_move s area bytes (spans_in ws) out
         unfolding whole_move
         move_told = rw (size, le-ltb 64 (length spans) few, ← held, ← sound, stands, e)
 
@@ -54,20 +55,24 @@ module _ (s : Snapshot) (area bytes ws : List ℕ) (spans : List (List ℕ)) (fr
         pub move_failed : (why : MoveError) → r ≡ Err why → moved (Err why) out ≡ whole_move s area bytes (spans_in ws) out
         move_failed why k = rw k at move_told
 
-        module _ (stop : Option (ℕ × Resolution)) (k : r ≡ Ok stop) where
-          pub move_stopped : (p : ℕ × Resolution) → stop ≡ Some p → moved (Ok (Stopped p.0 p.1)) out ≡ whole_move s area bytes (spans_in ws) out
-          move_stopped p h = rw (k, h) at move_told
+      module _ (stands : stands_in s area ≡ true) (ts : List ℕ) (w : WholeMove)
+          (e : told (Ok w) ts ≡ routes (walk_of s area) 0 (map (text_at bytes) (map span_of spans))) where
+        pub move_stopped : (place : ℕ) (v : Resolution) → w ≡ Stopped place v → moved (Ok w) out ≡ whole_move s area bytes (spans_in ws) out
+        move_stopped place v h = rw h (rw h at (move_told stands ts (Ok w) e))
 
-          module _ (all : stop ≡ None) (room : length spans ≤ length ts) where
-            counted : length (take (length spans) ts) ≡ length spans
-            counted = length-take-le (length spans) ts room
+        module _ (within : Within (Ok w) (length spans)) (room : length spans ≤ length ts) (count : ℕ) (h : w ≡ Routed count) where
+          pub routed_fits : count ≤ length ts
+          routed_fits = let all : count ≡ length spans = rw h at within in rw all room
 
-            -- 21
-            pub move_short : length out < length spans → moved (Err (OutShort (length spans))) out ≡ whole_move s area bytes (spans_in ws) out
-            move_short h = rw (k, all, counted, lt-ltb (length out) (length spans) h) at move_told
+          counted : length (take count ts) ≡ count
+          counted = length-take-le count ts routed_fits
 
-            pub move_routed : length spans ≤ length out → moved (Ok (Routed (length spans))) (take (length spans) ts ++ drop (length spans) out) ≡ whole_move s area bytes (spans_in ws) out
-            move_routed h = rw (k, all, counted, le-ltb (length out) (length spans) h) at move_told
+          -- 21
+          pub move_short : length out < count → moved (Err (OutShort count)) out ≡ whole_move s area bytes (spans_in ws) out
+          move_short l = rw (h, counted, lt-ltb (length out) count l) at (move_told stands ts (Ok w) e)
+
+          pub move_routed : count ≤ length out → moved (Ok (Routed count)) (take count ts ++ drop count out) ≡ whole_move s area bytes (spans_in ws) out
+          move_routed l = rw (h, counted, le-ltb (length out) count l) at (move_told stands ts (Ok w) e)
 
 -- each way
-pub ruleset ways = (move_large, move_refused, move_damaged, move_failed, move_stopped, move_short, move_routed)
+pub ruleset ways = (move_large, move_refused, move_damaged, move_failed, move_stopped, routed_fits, move_short, move_routed)

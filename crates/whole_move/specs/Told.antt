@@ -1,6 +1,5 @@
 -- Only private contracts cite this file: what the parts of a whole move tell each other.
-use Rattle.std.specs.Prelude as std
-use Rattle.std.specs.Prelude.{ℕ, ◌≡◌, false, List, ◌∷◌, get_or, Result, Ok, Err}
+use Rattle.std.specs.Prelude.{ℕ, ◌≡◌, false, List, get_or, take, Result, Ok, Err}
 use Rattle.std.proofs.Math.Option.{Option, none, some}
 use Rattle.subject_rules.specs.Answers.{Answer, answer}
 use Rattle.subject_rules.specs.Grammar.{grammar}
@@ -8,6 +7,8 @@ use Rattle.sublist_walk_rules.specs.Walk.{Walked, found, failed}
 use Rattle.binding.specs.declared.Resolution.{Resolution}
 use Rattle.binding.specs.Verdict.{single_home}
 use Rattle.whole_move_rules.specs.Move.{Span, Routes, targets, ended, stopped, turned_down}
+use Rattle.whole_move.specs.declared.WholeMove.{WholeMove}
+use Rattle.whole_move.specs.declared.WholeMove.TheVariants.{Routed, Stopped}
 use Rattle.whole_move.specs.declared.MoveError.{MoveError}
 use Rattle.whole_move.specs.declared.MoveError.TheVariants.{Damaged}
 use Rattle.whole_move.specs.Answers.{move_refusal}
@@ -31,8 +32,14 @@ abbrev pub verdict_of : Walked → Result Resolution MoveError
 verdict_of (found list peak) = Ok (single_home list)
 verdict_of (failed why) = Err Damaged
 
--- what the verdicts come to, with the targets gathered
-abbrev pub told : Result (std.Option (ℕ × Resolution)) MoveError → List ℕ → Routes
-told (Ok std.None) kept = targets kept
-told (Ok (std.Some stop)) kept = ended (stopped stop.0 stop.1)
+-- all of so many subjects are routed, where none stops the move
+abbrev pub Within : Result WholeMove MoveError → ℕ → Type 0
+Within (Ok (Routed count)) subjects = count ≡ subjects
+Within (Ok (Stopped place resolution)) subjects = Unit {0}
+Within (Err e) subjects = Unit {0}
+
+-- what the verdicts come to, with the targets gathered in the first places
+abbrev pub told : Result WholeMove MoveError → List ℕ → Routes
+told (Ok (Routed count)) kept = targets (take count kept)
+told (Ok (Stopped place resolution)) kept = ended (stopped place resolution)
 told (Err e) kept = ended (turned_down (move_refusal e))

@@ -1,12 +1,12 @@
 // Up to 64 subjects routed together by the standing table, or none of them. Not in the original.
 #![tactic(auto)]
 
-ghost use Rattle.std.specs.Prelude.{◌≡◌, ◌≤◌, true, map, length, take};
+ghost use Rattle.std.specs.Prelude.{◌≡◌, ◌≤◌, true, map, length};
 ghost use Rattle.std.proofs.Math.Option.{none};
 ghost use Rattle.sublist_snapshot.specs.Snapshot.{stands_in, walk_of};
 ghost use Rattle.whole_move_rules.specs.Move.{spans_in, text_at, bad_subject, bad_subjects, routes, whole_move};
 ghost use Rattle.whole_move.specs.Answers.{moved};
-ghost use Rattle.whole_move.specs.Told.{span_of, refused, Accepted, verdict_of, told};
+ghost use Rattle.whole_move.specs.Told.{span_of, refused, Accepted, verdict_of, Within, told};
 
 use binding::Resolution;
 use subject::SubjectError;
@@ -70,15 +70,15 @@ impl Standing<'_> {
         }
     }
 
-    // The subjects in turn, each Routed one's target put in its place, up to the first that is not Routed, which is
-    // told by its place and its verdict.
+    // The subjects in turn, each Routed one's target put in its place, up to the first that is not Routed.
     #[tactic(auto, using(crate::proofs::Routing::turns))]
     fn route(
         &self,
         subjects: &Subjects<'_>,
         targets: &mut [u32; MAX_MOVE],
-    ) -> Result<Option<(usize, Resolution)>, MoveError>
-        ensures { told result (take (length subjects.now.spans.now) targets.new)
+    ) -> Result<WholeMove, MoveError>
+        ensures within { Within result (length subjects.now.spans.now) }
+        ensures told { told result targets.new
             ≡ routes (walk_of self.now.snapshot self.now.area.now) 0
             (map (text_at subjects.now.bytes.now) (map span_of subjects.now.spans.now)) }
     {
@@ -86,11 +86,11 @@ impl Standing<'_> {
             let end = span[0] + span[1];
             let resolution = self.verdict(&subjects.bytes[span[0]..end])?;
             let Some(target) = resolution.routed() else {
-                return Ok(Some((place, resolution)));
+                return Ok(WholeMove::Stopped { place, resolution });
             };
             targets[place] = target;
         }
-        Ok(None)
+        Ok(WholeMove::Routed(subjects.spans.len()))
     }
 }
 
@@ -133,8 +133,7 @@ pub fn whole_move(
 {
     // Kept: the spans are plain numbers, two a subject, since the C interface lends them.
     let (spans, _) = spans.as_chunks::<2>();
-    let count = spans.len();
-    if MAX_MOVE < count {
+    if MAX_MOVE < spans.len() {
         return Err(MoveError::SetTooLarge);
     }
     check_subjects(bytes, spans)?;
@@ -144,12 +143,13 @@ pub fn whole_move(
     let subjects = Subjects { bytes, spans };
     let table = Standing { snapshot, area };
     let mut targets = [0u32; MAX_MOVE];
-    if let Some((place, resolution)) = table.route(&subjects, &mut targets)? {
-        return Ok(WholeMove::Stopped { place, resolution });
-    }
+    let answer = table.route(&subjects, &mut targets)?;
+    let WholeMove::Routed(count) = answer else {
+        return Ok(answer);
+    };
     if out.len() < count {
         return Err(MoveError::OutShort(count));
     }
     out[..count].copy_from_slice(&targets[..count]);
-    Ok(WholeMove::Routed(count))
+    Ok(answer)
 }

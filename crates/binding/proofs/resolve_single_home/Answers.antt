@@ -1,7 +1,6 @@
 -- `binding::resolve_single_home` meets its contract. Assumes nothing.
 use Rattle.std.proofs.Common.{◌≤◌, length, sym, arith, length-take-le}
-use Rattle.std.proofs.lemmas.Result.{err_from_is_err_and}
-use Rattle.binding.proofs.Judging.{match_down, match_inside, match_judged}
+use Rattle.binding.proofs.Judging.{match_inside}
 use Rattle.binding.proofs.resolve_single_home.Goals as goal
 use Rattle.binding.proofs.resolve_single_home.Goals.{In_ok-found}
 
@@ -9,16 +8,8 @@ use Rattle.binding.proofs.resolve_single_home.Goals.{In_ok-found}
 inside : (k : In_ok-found) → k.in_ok-found.found.count ≤ length k.match_into.new.out
 inside k = omega (arith, match_inside _ _ _ _ _ _ _ _ k.in_ok-found.ensures, k.match_into.auto.out)
 
-pub returns-in_err-found : goal.returns-in_err-found
-returns-in_err-found c =
-    let p = err_from_is_err_and c.from_residual.result c.from_residual.ensures.1 in
-    rw (p.1, p.2) (match_down _ _ _ _ _ _ c.in_err-found.ensures)
-
 pub slice_bounds-single_home-end : goal.slice_bounds-single_home-end
 slice_bounds-single_home-end c = inside (goal.at.slice_bounds-single_home-end c).In_ok-found
 
 pub slice_bounds-single_home-end-2 : goal.slice_bounds-single_home-end-2
 slice_bounds-single_home-end-2 c = sym (length-take-le _ _ (inside (goal.at.slice_bounds-single_home-end-2 c).In_ok-found))
-
-pub returns : goal.returns
-returns c = match_judged _ _ _ _ _ _ _ _ c.in_ok-found.ensures c.single_home.result c.single_home.ensures

@@ -1,10 +1,7 @@
-use Rattle.std.proofs.Common.{◌∙◌, le-ltb, lt-ltb, rules}
+use Rattle.std.proofs.Common.{◌∙◌, le-ltb, rules}
 use Rattle.std.proofs.lemmas.Result.{err_from_is_err_and}
-use Rattle.subject.proofs.Stages.{too_long_lem, not_utf8, no_bytes, by_tokens}
+use Rattle.subject.proofs.Stages.{not_utf8, no_bytes, by_tokens}
 use Rattle.subject.proofs.validate.Goals as goal
-
-pub returns-then-text-gt-MAX_TEXT : goal.returns-then-text-gt-MAX_TEXT
-returns-then-text-gt-MAX_TEXT c = too_long_lem _ c.args.text.now (lt-ltb _ _ c.if-text-gt-MAX_TEXT.true)
 
 pub returns-in_err-map_err : goal.returns-in_err-map_err
 returns-in_err-map_err c =

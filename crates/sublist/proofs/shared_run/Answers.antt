@@ -1,31 +1,26 @@
-use Rattle.std.proofs.Common.{inl, inr, zero-add, arith}
+-- `sublist::shared_run` meets its contract: its chain gives the pairs of tokens up to the first whose keys are not equal.
+use Rattle.std.proofs.Common.{inl, ◌∙◌, rules, tests, arith}
+use Rattle.std.proofs.lemmas.Iterator.{YieldsList-from_zip}
+use Rattle.std.proofs.lemmas.Iterator.Consumers.{YieldsList-at, YieldsList-from_first, count_from_yields_List}
+use Rattle.std.proofs.lemmas.Iterator.Search.{YieldsList-from_take_while}
 use Rattle.subject.specs.Reading.{tokens_from}
-use Rattle.sublist.specs.Sharing.{shared_by}
-use Rattle.sublist.proofs.Alike.{none-left, none-right, alike, unlike}
-use Rattle.sublist.proofs.OneMore.{shared-tokens, tokens-most}
+use Rattle.subject_rules.specs.Text.{tokens}
+use Rattle.sublist.specs.Sharing.{same_key}
+use Rattle.sublist.proofs.Alike.{run_alike}
+use Rattle.sublist.proofs.OneMore.{tokens-most}
 use Rattle.sublist.proofs.shared_run.Goals as goal
 
-pub loop-s-init : goal.loop-s-init
-unfolding shared_by
-loop-s-init c = rw (c.into_iter-s-iterator.ensures.into_iter_gives, c.zip-s-items.ensures.first, c.zip-s-items.ensures.second, c.new.ensures.whole, c.new-2.ensures.whole) (zero-add _)
-
-pub returns-then-not-same_key : goal.returns-then-not-same_key
-returns-then-not-same_key c =
-    let h = c.in-Some.ensures.steps in
-    omega (arith, c.loop-s.invariant, unlike _ _ _ _ _ _ h.0 h.1 c.if-not-same_key.ensures)
-
-pub overflow_add-shared : goal.overflow_add-shared
-overflow_add-shared c =
-    let h = c.in-Some.ensures.steps in
-    omega (arith, c.loop-s.invariant, alike _ _ _ _ _ _ h.0 h.1 c.if-not-same_key.ensures, shared-tokens c.args.a.now c.args.b.now, tokens-most c.args.a.now)
-
-pub loop-s-preserved : goal.loop-s-preserved
-loop-s-preserved c =
-    let h = c.in-Some.ensures.steps in
-    omega (arith, c.loop-s.invariant, alike _ _ _ _ _ _ h.0 h.1 c.if-not-same_key.ensures)
+pub count-requires-clause-fits : goal.count-requires-clause-fits
+count-requires-clause-fits c =
+    inl (rw (c.take_while.ensures.source, c.zip.ensures.first, c.zip.ensures.second, c.new.ensures.whole, c.new-2.ensures.whole) (omega (arith, tokens-most c.args.a.now)))
 
 pub returns : goal.returns
-returns c = elim c.in-None.ensures.steps [
-  | inl h ↦ let z = none-left _ (tokens_from c.loop-s.s-iterator.b.text.now c.loop-s.s-iterator.b.at) h.1.0 in omega (arith, c.loop-s.invariant)
-  | inr h ↦ let z = none-right (tokens_from c.loop-s.s-iterator.a.text.now c.loop-s.s-iterator.a.at) _ h.1.0 in omega (arith, c.loop-s.invariant)
-]
+returns c =
+    count_from_yields_List _ _ c.count.ensures.ran
+    (YieldsList-from_take_while _ (λ p. same_key p.0 p.1)
+    (YieldsList-at c.take_while.ensures.source
+    (YieldsList-from_zip
+    (YieldsList-at c.zip.ensures.first (YieldsList-from_first (λ token. token.now) (λ s. tokens_from s.text.now s.at) (tokens c.args.a.now) c.new.ensures.whole))
+    (YieldsList-at c.zip.ensures.second (YieldsList-from_first (λ token. token.now) (λ s. tokens_from s.text.now s.at) (tokens c.args.b.now) c.new-2.ensures.whole))))
+    c.take_while.ensures.closure c.take_while.ensures.done (λ x b q k. search (rules, tests)))
+    ∙ run_alike c.args.a.now c.args.b.now

@@ -23,8 +23,7 @@ invariant_of-result c =
     let none = sym (is (goal.at.invariant_of-result c).After-fold-bad) ∙ c.if-bad.false in
     record {
       inside = omega arith;
-      few = omega arith;
-      room = omega arith;
+      room = (omega arith, omega arith);
       each = λ i. omega (arith, c.type_inv.bytes i);
       small = λ i h. small_from c.args.capacity c.args.bytes.now 0 c.args.used none i (omega arith) (omega arith);
     }
