@@ -21,7 +21,7 @@ use Rattle.sublist_entries.specs.Entries.{text_of, read_from}
 use Rattle.sublist_rules.specs.Building.{invalid, bad_entry, bad_entries, needed, worst_of as worst_in, build_says}
 use Rattle.sublist_rules.specs.Passes.{lines_in, settled, laid_at, laid, filled}
 use Rattle.sublist_rules.specs.Leaving.{build_leaves}
-use Rattle.sublist_rules.proofs.AcceptedEntries.{first_none}
+use Rattle.subject_rules.proofs.Depths.{first_none}
 use Rattle.sublist_snapshot.specs.Snapshot.{Table, empty_table}
 use Rattle.binding.specs.Demand.{worst_of, holding, entries_refused, BuildRight}
 use Rattle.binding.specs.Built.{BuiltFrom}

@@ -27,7 +27,7 @@ use Rattle.sublist_rules.specs.Leaving.{build_leaves}
 use Rattle.sublist_snapshot.specs.Snapshot.{make}
 use Rattle.resolve_cache_rules.specs.Cache.{with_capacity}
 use Rattle.binding.specs.Built.{BuiltFrom}
-use Rattle.resolve_cache_rules.proofs.Slots.{and_true}
+use Rattle.subject_rules.proofs.Booleans.{and_both}
 use Rattle.binding.specs.Demand.{in_play, HashedApart, Premises, Opened}
 use Rattle.binding.specs.Timetable.{texts, list_from, table_of, words_for, cabinet, five_entries, other_entries, every_call}
 
@@ -37,7 +37,7 @@ every p (x ∷ xs) = and (p x) (every p xs)
 
 all_of : {A : Type 0} (p : A → Bool) (P : A → Type 0) → ((x : A) → p x ≡ true → P x) → (xs : List A) → every p xs ≡ true → All P xs
 all_of p P f [] e = tt
-all_of p P f (x ∷ xs) e = let both = and_true (p x) (every p xs) e in (f x both.0, all_of p P f xs both.1)
+all_of p P f (x ∷ xs) e = let both = and_both (p x) (every p xs) e in (f x both.0, all_of p P f xs both.1)
 
 abbrev far : List ℕ → List ℕ → Bool
 far t u = or (not (eqb (fnv t) (fnv u))) (same t u)

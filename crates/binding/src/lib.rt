@@ -11,7 +11,7 @@ ghost use Rattle.binding.specs.Answers.{cached_answer, homed, cached_homed};
 
 use resolve_cache::ResolveError;
 use resolve_cache_rules::ResolveCache;
-use sublist_snapshot::{Generation, Snapshot};
+use sublist_snapshot::{Generation, StandingTable};
 use sublist_walk::MatchError;
 
 // Exactly one target, none, or several with their number.
@@ -73,15 +73,14 @@ pub fn single_home(matched: &[u32]) -> Resolution
 // 19, then 21.
 #[tactic(auto, using(crate::proofs::Judging::match_down, crate::proofs::Judging::match_judged))]
 pub fn resolve_single_home(
-    snapshot: Snapshot,
-    area: &[u32],
+    standing: &StandingTable<'_>,
     subject: &[u8],
     out: &mut [u32],
 ) -> Result<SingleHome, MatchError>
     ensures { homed result out.new
-        ≡ resolve_single_home snapshot area.now subject.now out.old }
+        ≡ resolve_single_home standing.now.snapshot standing.now.area.now subject.now out.old }
 {
-    let found = snapshot.match_into(area, subject, out)?;
+    let found = standing.match_into(subject, out)?;
     Ok(SingleHome {
         resolution: single_home(&out[..found.count]),
         peak: found.peak,
@@ -95,16 +94,15 @@ pub fn resolve_single_home_cached(
     stamps: &mut [u64],
     keys: &mut [u8],
     kept: &mut [u32],
-    snapshot: Snapshot,
-    area: &[u32],
+    standing: &StandingTable<'_>,
     subject: &[u8],
     out: &mut [u32],
 ) -> CachedResolution
     ensures { cached_homed result (lent stamps.new keys.new kept.new) out.new
         ≡ resolve_single_home_cached cache (lent stamps.old keys.old kept.old)
-        snapshot area.now subject.now out.old }
+        standing.now.snapshot standing.now.area.now subject.now out.old }
 {
-    let resolved = resolve_cache::resolve(cache, stamps, keys, kept, snapshot, area, subject, out);
+    let resolved = resolve_cache::resolve(cache, stamps, keys, kept, standing, subject, out);
     let list = resolve_cache::list(resolved.answer, kept, out);
     CachedResolution {
         cache: resolved.cache,

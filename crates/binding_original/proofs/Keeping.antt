@@ -11,26 +11,13 @@ use mathlib.Core.List.{List, [], ◌∷◌, ◌++◌}
 use mathlib.Core.Option.{Option, none, some}
 use lib.Dec.{eqb, ltb}
 use lib.ListN.{length}
-use borrow.Author.Tests.{eqb-true}
+use borrow.Author.Tests.{eqb-true, eqb-false}
 use Rattle.subject_rules.specs.Original.{when◌then◌else◌, equal}
 use Rattle.sublist_tree.specs.Table.{TableEntry}
 use Rattle.sublist_original.specs.Original.{Ok, Std}
 use Rattle.binding_original.specs.Original.{SublistSnapshot, CacheEntry, HashMap, Iter, ResolveCache, Each, get, refresh, remove, guarded, without, evict_if_full, hit, miss, looked_up, resolve_with, wrapping_add}
+use Rattle.binding_original.proofs.Maps.{Pair, each_at, each_of, get_some, remove_from}
 use Rattle.binding_original.proofs.Stamping.{walked_by, Walks}
-
--- a key and its entry
-abbrev pub Pair : Type 0
-Pair = List ℕ × CacheEntry ℕ
-
-pub equal-sound : (xs ys : List ℕ) → equal xs ys ≡ true → xs ≡ ys
-equal-sound [] [] e = refl
-equal-sound [] (y ∷ ys) e = absurd (cc)
-equal-sound (x ∷ xs) [] e = absurd (cc)
-equal-sound (x ∷ xs) (y ∷ ys) e = go (eqb x y) refl e (equal-sound xs ys)
-  where
-    go : (b : Bool) → eqb x y ≡ b → (when b then equal xs ys else false) ≡ true → (equal xs ys ≡ true → xs ≡ ys) → x ∷ xs ≡ y ∷ ys
-    go true p e ih = rw (eqb-true x y p, ih e)
-    go false p e ih = absurd (cc)
 
 -- the entries under a key are what a function gives for it
 module _ (due : List ℕ → List ℕ) where
@@ -38,12 +25,7 @@ module _ (due : List ℕ → List ℕ) where
   Kept x = x.1.targets ≡ due x.0
 
   get-kept : (entries : HashMap ℕ) (key : List ℕ) (e : CacheEntry ℕ) → Each Kept entries → get entries key ≡ some e → e.targets ≡ due key
-  get-kept [] key e k q = absurd (cc)
-  get-kept ((k, d) ∷ rest) key e a q = go (equal k key) refl q (get-kept rest key e a.1)
-    where
-      go : (b : Bool) → equal k key ≡ b → (when b then some d else get rest key) ≡ some e → (get rest key ≡ some e → e.targets ≡ due key) → e.targets ≡ due key
-      go true p q ih = let same : d ≡ e = cc in ap (λ (x : CacheEntry ℕ). x.targets) (sym same) ∙ a.0 ∙ ap due (equal-sound k key p)
-      go false p q ih = ih q
+  get-kept entries key e a q = each_at Kept entries (key, e) a (get_some entries key e q)
 
   refresh-kept : (entries : HashMap ℕ) (key : List ℕ) (t : ℕ) → Each Kept entries → Each Kept (refresh entries key t)
   refresh-kept [] key t a = tt
@@ -54,12 +36,7 @@ module _ (due : List ℕ → List ℕ) where
       go false ih = (a.0, ih)
 
   remove-kept : (entries : HashMap ℕ) (key : List ℕ) → Each Kept entries → Each Kept (remove entries key)
-  remove-kept [] key a = tt
-  remove-kept ((k, d) ∷ rest) key a = go (equal k key) (remove-kept rest key a.1)
-    where
-      go : (b : Bool) → Each Kept (remove rest key) → Each Kept (when b then remove rest key else (k, d) ∷ remove rest key)
-      go true ih = ih
-      go false ih = (a.0, ih)
+  remove-kept entries key a = each_of Kept (remove entries key) (λ x m. each_at Kept entries x a (remove_from entries key x m).0)
 
   push_kept : (entries : HashMap ℕ) (x : Pair) → Each Kept entries → Kept x → Each Kept (entries ++ (x ∷ []))
   push_kept [] x a k = (k, tt)
@@ -103,12 +80,17 @@ resolve-gives std iter f es snapshot cache g text walks gen =
 abbrev pub Trusty : (List ℕ → List ℕ) → ℕ → ResolveCache ℕ → Type 0
 Trusty due g cache = cache.generation ≡ g → Each (Kept due) cache.entries
 
-pub guarded_on : (g : ℕ) (cache : ResolveCache ℕ) → (guarded g cache).generation ≡ g
-guarded_on g cache = go (eqb g cache.generation) refl
+-- by whether the cache is on the table's generation
+pub guarded_by : (g : ℕ) (cache : ResolveCache ℕ) (P : ResolveCache ℕ → Type 0) → (g ≡ cache.generation → P cache)
+    → ((g ≡ cache.generation → ⊥) → P (record { entries = []; generation = g; capacity = cache.capacity; tick = 0; walks = cache.walks })) → P (guarded g cache)
+guarded_by g cache P on other = go (eqb g cache.generation) refl
   where
-    go : (b : Bool) → eqb g cache.generation ≡ b → (when b then cache else record { entries = []; generation = g; capacity = cache.capacity; tick = 0; walks = cache.walks }).generation ≡ g
-    go true q = sym (eqb-true g cache.generation q)
-    go false q = refl
+    go : (b : Bool) → eqb g cache.generation ≡ b → P (when b then cache else record { entries = []; generation = g; capacity = cache.capacity; tick = 0; walks = cache.walks })
+    go true q = on (eqb-true g cache.generation q)
+    go false q = other (eqb-false g cache.generation q)
+
+pub guarded_on : (g : ℕ) (cache : ResolveCache ℕ) → (guarded g cache).generation ≡ g
+guarded_on g cache = guarded_by g cache (λ c. c.generation ≡ g) (λ q. sym q) (λ q. refl)
 
 pub left_on : (iter : Iter ℕ) (g : ℕ) (cache : ResolveCache ℕ) (text list : List ℕ) (r : Option (CacheEntry ℕ)) → (left_of iter (guarded g cache) text list r).generation ≡ g
 left_on iter g cache text list (some e) = guarded_on g cache
@@ -119,12 +101,7 @@ module _ (due : List ℕ → List ℕ) (g : ℕ) (cache : ResolveCache ℕ) (t :
   on = guarded g cache
 
   guarded-kept : Each (Kept due) (guarded g cache).entries
-  guarded-kept = go (eqb g cache.generation) refl
-    where
-      go : (b : Bool) → eqb g cache.generation ≡ b
-          → Each (Kept due) (when b then cache else record { entries = []; generation = g; capacity = cache.capacity; tick = 0; walks = cache.walks }).entries
-      go true q = t (sym (eqb-true g cache.generation q))
-      go false q = tt
+  guarded-kept = guarded_by g cache (λ c. Each (Kept due) c.entries) (λ q. t (sym q)) (λ q. tt)
 
   module _ (text : List ℕ) where
     pub trusty_list : list_of (due text) (get on.entries text) ≡ due text

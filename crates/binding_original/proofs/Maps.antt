@@ -5,11 +5,26 @@ use mathlib.Core.Logic.{◌⊎◌, inl, inr}
 use mathlib.Core.Bool.{Bool, true, false}
 use mathlib.Core.List.{List, [], ◌∷◌, ◌++◌, Memᴰ}
 use mathlib.Core.Option.{none, some}
+use lib.Dec.{eqb}
 use lib.ListN.{length}
+use borrow.Author.Tests.{eqb-true}
 use Rattle.subject_rules.specs.Original.{when◌then◌else◌, equal}
 use Rattle.sublist_tree.proofs.Bytes.{eqb_whole}
 use Rattle.binding_original.specs.Original.{CacheEntry, HashMap, Each, get, refresh, remove}
-use Rattle.binding_original.proofs.Keeping.{Pair, equal-sound}
+
+-- a key and its entry
+abbrev pub Pair : Type 0
+Pair = List ℕ × CacheEntry ℕ
+
+equal-sound : (xs ys : List ℕ) → equal xs ys ≡ true → xs ≡ ys
+equal-sound [] [] e = refl
+equal-sound [] (y ∷ ys) e = absurd (cc)
+equal-sound (x ∷ xs) [] e = absurd (cc)
+equal-sound (x ∷ xs) (y ∷ ys) e = go (eqb x y) refl e (equal-sound xs ys)
+  where
+    go : (b : Bool) → eqb x y ≡ b → (when b then equal xs ys else false) ≡ true → (equal xs ys ≡ true → xs ≡ ys) → x ∷ xs ≡ y ∷ ys
+    go true p e ih = rw (eqb-true x y p, ih e)
+    go false p e ih = absurd (cc)
 
 pub equal_whole : (xs : List ℕ) → equal xs xs ≡ true
 equal_whole [] = refl
@@ -30,7 +45,7 @@ each_at P [] x a x4 = elim x4 [ ]
 each_at P (y ∷ ys) x a (Memᴰ.head e) = subst P (sym e) a.0
 each_at P (y ∷ ys) x a (Memᴰ.tail m) = each_at P ys x a.1 m
 
-each_of : (P : Pair → Type 0) (es : HashMap ℕ) → ((x : Pair) → Memᴰ x es → P x) → Each P es
+pub each_of : (P : Pair → Type 0) (es : HashMap ℕ) → ((x : Pair) → Memᴰ x es → P x) → Each P es
 each_of P [] f = tt
 each_of P (y ∷ ys) f = (f y (Memᴰ.head refl), each_of P ys (λ x m. f x (Memᴰ.tail m)))
 

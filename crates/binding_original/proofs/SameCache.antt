@@ -22,13 +22,12 @@ use Rattle.resolve_cache_rules.specs.declared.ResolveCache.{ResolveCache}
 use Rattle.resolve_cache_rules.specs.Area.{Area, stamp_at, key_at, targets_at, keep, touch}
 use Rattle.resolve_cache_rules.specs.Cache.{ticked, hit, grown, place, oldest_from}
 use Rattle.resolve_cache_rules.proofs.Slots.{touch-stamp, touch-stamp_other, keep_key_lem, keep-targets, keep-stamp, keep_other, keep-stamp_other, oldest_least, oldest_below}
+use Rattle.resolve_cache_rules.proofs.Keeps.{Keeps, Anything}
 use Rattle.binding_original.specs.Original as original
 use Rattle.binding_original.specs.Original.{CacheEntry, HashMap, Iter, wrapping_add, without, miss}
 use Rattle.binding_original.specs.Caches.{row}
-use Rattle.binding_original.proofs.Keeping.{Pair}
 use Rattle.binding_original.proofs.Near.{Near}
-use Rattle.binding_original.proofs.OurCache.{Keeps, Anything}
-use Rattle.binding_original.proofs.Maps.{equal_whole, equal_other, each_at, Once, absent_of, upd, refresh-length, refresh_to, refresh_from, refresh_once, remove_absent, remove_from, remove_to, remove_once, remove-length, push_old, push-new, push_from, push_once}
+use Rattle.binding_original.proofs.Maps.{Pair, equal_whole, equal_other, each_at, Once, absent_of, upd, refresh-length, refresh_to, refresh_from, refresh_once, remove_absent, remove_from, remove_to, remove_once, remove-length, push_old, push-new, push_from, push_once}
 
 pair_is : (k l : List ℕ) (xs ys : List ℕ) (s t : ℕ) → k ≡ l → xs ≡ ys → s ≡ t
     → ◌≡◌ {A = Pair} (k, record { targets = xs; last_used = s }) (l, record { targets = ys; last_used = t })

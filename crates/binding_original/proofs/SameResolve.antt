@@ -11,27 +11,25 @@ use mathlib.Core.Path.{◌≡◌, refl, sym, ◌∙◌, ap, subst}
 use mathlib.Core.Bool.{Bool, true, false, not}
 use mathlib.Core.List.{List, [], ◌∷◌}
 use mathlib.Core.Option.{Option, none, some}
-use lib.Dec.{eqb, ltb}
+use lib.Dec.{eqb}
 use lib.ListN.{length}
-use borrow.Author.Tests.{ltb-false, eqb-true, eqb-false}
-use Rattle.subject_rules.specs.Choice.{pick, and, or}
+use Rattle.subject_rules.specs.Choice.{and, or}
 use Rattle.subject_rules.specs.Answers.{answer}
-use Rattle.subject_rules.specs.Original.{when◌then◌else◌}
 use Rattle.sublist_walk_rules.specs.Walk.{among}
 use Rattle.sublist_snapshot.specs.declared.Generation.{Generation}
 use Rattle.resolve_cache_rules.specs.declared.ResolveCache.{ResolveCache}
-use Rattle.resolve_cache_rules.specs.Area.{Area, keep}
-use Rattle.resolve_cache_rules.specs.Cache.{cache_numbers, with_capacity, emptied, clear, adopt, ticked, walked, grown, place}
+use Rattle.resolve_cache_rules.specs.Area.{Area}
+use Rattle.resolve_cache_rules.specs.Cache.{cache_numbers, with_capacity, emptied, clear, adopt, qualifies}
 use Rattle.resolve_cache_rules.proofs.Slots.{or_false, find-sound, find_none}
-use Rattle.resolve_cache_rules.proofs.Faithful.{fresh_faithful}
+use Rattle.resolve_cache_rules.proofs.Keeps.{Keeps, Anything, made_is, fresh_keeps, empty_keeps, adopted_by, adopted_keeps, qualified}
 use Rattle.binding.specs.Calls.{Kept}
 use Rattle.binding_original.specs.Original as original
 use Rattle.binding_original.specs.Original.{CacheEntry, Iter, guarded, get, miss}
 use Rattle.binding_original.specs.Caches.{row, uncacheable}
-use Rattle.binding_original.proofs.Keeping.{Pair, Kept as Trusted, list_of, left_of, Trusty, trusty_list, left_trusty, left_on}
-use Rattle.binding_original.proofs.Maps.{each_at, get_none, get_some}
-use Rattle.binding_original.proofs.OurCache.{Keeps, Anything, emptied_keeps, adopted_keeps, adopted_generation, slot_of, listed, left_by, left_keeps, left-generation}
-use Rattle.binding_original.proofs.Near.{Near, near_later, emptied_near, cleared_near, fresh_zero, fresh_near}
+use Rattle.binding_original.proofs.Keeping.{Kept as Trusted, list_of, left_of, guarded_by, Trusty, trusty_list, left_trusty, left_on}
+use Rattle.binding_original.proofs.Maps.{Pair, each_at, get_none, get_some}
+use Rattle.binding_original.proofs.OurCache.{adopted_generation, slot_of, listed, left_if_kept, left_by, left_keeps, left-generation}
+use Rattle.binding_original.proofs.Near.{Near, near_later, emptied_near, cleared_near, fresh_near}
 use Rattle.binding_original.proofs.SameCache.{hit_near, miss_near}
 
 -- the lists are what a function gives for their subjects
@@ -51,15 +49,12 @@ pub record Right (due : List ℕ → List ℕ) (g : ℕ) (k : Kept) (o : origina
   pub ours : k.cache.generation.0 ≡ g → Keeps (Dues due) k.cache k.area
   pub theirs : Trusty due g o
 
-none_used : (P : List ℕ → List ℕ → Type 0) (c : ResolveCache) (a : Area) → Keeps Anything c a → 0 ≡ c.used → Keeps P c a
-none_used P c a f z = record { wide = f.wide; any = f.any; fits = f.fits; small = f.small; each = λ i h. absurd (omega (arith, z, h)) }
-
 pub fresh-sound : (stood : List ℕ) (k : Kept) (n p : ℕ) → with_capacity n k.area ≡ answer 0 (cache_numbers k.cache) → max p 1 ≡ k.cache.capacity
     → Sound false false stood 0 k (original.with-capacity p)
 fresh-sound stood k n p e same = record {
-  fit = let f = fresh_faithful (λ x. []) n k.cache k.area e in record { wide = f.wide; any = f.any; fits = f.fits; small = f.small; each = λ i h. tt };
+  fit = fresh_keeps Anything n k.cache k.area e;
   near = λ q. fresh_near k.cache k.area p n e same;
-  past = λ q r. (fresh_zero n k.cache k.area e).0;
+  past = λ q r. ap (λ (d : ResolveCache). d.used) (made_is n k.cache k.area e).1;
   their_past = λ q r. refl;
 }
 
@@ -80,7 +75,7 @@ module _ (spoiled mixed : Bool) (stood : List ℕ) (m : ℕ) (k : Kept) (o : ori
   -- if none that stood had its generation, there is no list on it
   pub new-right : (due : List ℕ → List ℕ) (h : ℕ) → mixed ≡ false → among h stood ≡ false → Right due h k o
   new-right due h q new = record {
-    ours = λ e. none_used (Dues due) k.cache k.area s.fit (s.past q (ap (λ n. among n stood) e ∙ new));
+    ours = λ e. empty_keeps (Dues due) k.cache k.area s.fit.wide s.fit.any (s.past q (ap (λ n. among n stood) e ∙ new));
     theirs = λ e. subst (original.Each (Trusted due)) (sym (s.their_past q (ap (λ n. among n stood) e ∙ new))) tt;
   }
 
@@ -89,7 +84,7 @@ module _ (spoiled mixed : Bool) (stood : List ℕ) (m : ℕ) (c : ResolveCache) 
   pub cleared-sound : (then' : Bool) → (then' ≡ false → spoiled ≡ false) → Sound then' mixed stood (suc m) (record { cache = clear c; area = a }) (original.clear o)
   unfolding clear
   cleared-sound then' less = record {
-    fit = emptied_keeps Anything c.generation c a s.fit;
+    fit = empty_keeps Anything (emptied c.generation c) a s.fit.wide s.fit.any refl;
     near = λ e. near_later m (clear c) a (original.clear o) (cleared_near m c a o (s.near (less e)));
     past = λ q e. refl;
     their_past = λ q e. refl;
@@ -97,7 +92,7 @@ module _ (spoiled mixed : Bool) (stood : List ℕ) (m : ℕ) (c : ResolveCache) 
 
   pub cleared-right : (due : List ℕ → List ℕ) (h : ℕ) → Right due h (record { cache = clear c; area = a }) (original.clear o)
   unfolding clear
-  cleared-right due h = record { ours = λ e. emptied_keeps (Dues due) c.generation c a s.fit; theirs = λ e. tt }
+  cleared-right due h = record { ours = λ e. empty_keeps (Dues due) (emptied c.generation c) a s.fit.wide s.fit.any refl; theirs = λ e. tt }
 
 -- through a snapshot with a table of generation g
 module _ (spoiled mixed : Bool) (stood : List ℕ) (due : List ℕ → List ℕ) (g : Generation) (m : ℕ) (c : ResolveCache) (a : Area) (o : original.ResolveCache ℕ)
@@ -111,23 +106,19 @@ module _ (spoiled mixed : Bool) (stood : List ℕ) (due : List ℕ → List ℕ)
   on = guarded g.0 o
 
   fit_on : Keeps Anything e a
-  fit_on = adopted_keeps Anything g c a s.fit (λ z. s.fit)
+  fit_on = adopted_keeps Anything g c a s.fit.wide s.fit.any (λ z. s.fit)
 
   near_on : spoiled ≡ false → Near m e a on
-  near_on clean = go (eqb c.generation.0 g.0) refl (eqb g.0 o.generation) refl
+  near_on clean =
+      adopted_by g c (λ d. Near m d a on)
+      (λ p. guarded_by g.0 o (λ d. Near m c a d) (λ q. n) (λ q. absurd (q (sym p ∙ sym n.same.generation))))
+      (λ p. guarded_by g.0 o (λ d. Near m (emptied g c) a d) (λ q. absurd (p (sym n.same.generation ∙ sym q))) (λ q. emptied_near m g c a o n))
     where
       n : Near m c a o
       n = s.near clean
 
-      go : (b : Bool) → eqb c.generation.0 g.0 ≡ b → (d : Bool) → eqb g.0 o.generation ≡ d
-          → Near m (pick b c (emptied g c)) a (when d then o else record { entries = []; generation = g.0; capacity = o.capacity; tick = 0; walks = o.walks })
-      go true p true q = n
-      go false p false q = emptied_near m g c a o n
-      go true p false q = absurd (eqb-false g.0 o.generation q (sym (eqb-true c.generation.0 g.0 p) ∙ sym n.same.generation))
-      go false p true q = absurd (eqb-false c.generation.0 g.0 p (sym n.same.generation ∙ sym (eqb-true g.0 o.generation q)))
-
   right_on : mixed ≡ false → Keeps (Dues due) e a
-  right_on apart = adopted_keeps (Dues due) g c a s.fit (right apart).ours
+  right_on apart = adopted_keeps (Dues due) g c a s.fit.wide s.fit.any (right apart).ours
 
   module _ (subject : List ℕ) where
     abbrev list : List ℕ
@@ -193,21 +184,19 @@ module _ (spoiled mixed : Bool) (stood : List ℕ) (due : List ℕ → List ℕ)
       left_near : spoiled ≡ false → uncacheable subject (listed e a list (slot_of e a subject)) ≡ false → Near (suc m) left.cache left.area their_left
       left_near clean = go (slot_of e a subject) (get on.entries subject) (both clean)
         where
-          missed : (b d : Bool) → ltb 256 (length subject) ≡ b → ltb 16 (length list) ≡ d → ((j : ℕ) → j < e.used → (row e.capacity a j).0 ≡ subject → ⊥) → or b d ≡ false
-              → Near (suc m) (let x : Kept = pick (not (or b d)) (record { cache = grown e; area = keep e.capacity a (place e a) subject list (ticked e).0 }) (record { cache = walked e; area = a }) in x).cache
-              (let x : Kept = pick (not (or b d)) (record { cache = grown e; area = keep e.capacity a (place e a) subject list (ticked e).0 }) (record { cache = walked e; area = a }) in x).area
-              (miss iter on subject list)
-          missed true d p r k q = absurd (cc)
-          missed false true p r k q = absurd (cc)
-          missed false false p r k q =
-              miss_near m e a on fit_on (near_on clean) few subject list filled (ltb-false 256 (length subject) p) (ltb-false 16 (length list) r) k iter
+          missed : ((j : ℕ) → j < e.used → (row e.capacity a j).0 ≡ subject → ⊥) → qualifies subject list ≡ true
+              → Near (suc m) (left_by e a subject list none).cache (left_by e a subject list none).area (miss iter on subject list)
+          missed new =
+              qualified subject list
+              (λ b. b ≡ true → Near (suc m) (left_if_kept e a subject list b).cache (left_if_kept e a subject list b).area (miss iter on subject list))
+              (λ short small q. miss_near m e a on fit_on (near_on clean) few subject list filled short small new iter) (λ q. absurd (cc))
 
           go : (r : Option ℕ) (t : Option (CacheEntry ℕ)) → Both r t → uncacheable subject (listed e a list r) ≡ false
               → Near (suc m) (left_by e a subject list r).cache (left_by e a subject list r).area (left_of iter on subject list t)
           go (some i) (some x) k q = hit_near m e a on fit_on (near_on clean) few subject i k.1.0 k.1.1
           go (some i) none k q = absurd k
           go none (some x) k q = absurd k
-          go none none k q = missed (ltb 256 (length subject)) (ltb 16 (length list)) refl refl k q
+          go none none k q = missed k (ap not q)
 
       left_adopts : left.cache.generation.0 ≡ g.0
       left_adopts = ap (λ (h : Generation). h.0) (left-generation e a subject list (slot_of e a subject)) ∙ adopted_generation g c

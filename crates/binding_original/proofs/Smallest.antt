@@ -10,7 +10,7 @@ use lib.Dec.{ltb}
 use borrow.Author.Tests.{ltb-true, ltb-false}
 use Rattle.subject_rules.specs.Original.{when◌then◌else◌}
 use Rattle.binding_original.specs.Original.{HashMap, Each, Iter}
-use Rattle.binding_original.proofs.Keeping.{Pair}
+use Rattle.binding_original.proofs.Maps.{Pair}
 
 abbrev stamp_of : Pair → ℕ
 stamp_of x = x.1.last_used

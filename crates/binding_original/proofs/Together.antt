@@ -14,6 +14,7 @@ use lib.Dec.{eqb}
 use borrow.Author.Tests.{eqb-true, eqb-false, ne_eqb}
 use Rattle.subject_rules.specs.Choice.{pick, or}
 use Rattle.subject_rules.specs.Fnv.{fnv}
+use Rattle.subject_rules.proofs.Booleans.{or_true}
 use Rattle.sublist_tree.specs.Lists.{All}
 use Rattle.sublist_tree.specs.Table.{TableEntry, root_of, Accepted}
 use Rattle.sublist_tree.proofs.Bytes.{eqb_whole}
@@ -57,10 +58,6 @@ seen_by t f = record { spoiled = λ j. or (t.spoiled j) (f j); named = t.named; 
 
 abbrev pub nothing : ℕ → Bool
 nothing j = false
-
-or_true : (x y : Bool) → y ≡ true → or x y ≡ true
-or_true true y e = refl
-or_true false y e = e
 
 never : (b : Bool) → b ≡ true → b ≡ false → ⊥
 never b p q = cc
@@ -124,7 +121,7 @@ module _ (std : Std) (k : Seen) (m : ℕ) (y : Yard) (w : World) (held : Togethe
 
         known : (x : ℕ) (d : Bool) → eqb j x ≡ d → among x (j ∷ k.named) ≡ true → among (then' d x).snapshot.generation.0 (h ∷ k.stood) ≡ true
         known x true q n = rw (eqb_whole h)
-        known x false q n = or_true (eqb (stands_at y x) h) (among (stands_at y x) k.stood) (held.among-stood x (named-before x q n))
+        known x false q n = rw (held.among-stood x (named-before x q n)) (or_true (eqb (stands_at y x) h))
 
         parted : (k.mixed ≡ false) × (among h k.stood ≡ false) → (x : ℕ) (d : Bool) → eqb j x ≡ d → (z : ℕ) (c : Bool) → eqb j z ≡ c
             → among x (j ∷ k.named) ≡ true → among z (j ∷ k.named) ≡ true → (then' d x).snapshot.generation.0 ≡ (then' c z).snapshot.generation.0 → x ≡ z

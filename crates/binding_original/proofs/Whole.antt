@@ -6,19 +6,15 @@
 use Prim.Native.Nat.{ℕ, ◌<◌, ◌^◌, max}
 use native.Mathlib.Omega.{arith}
 use mathlib.Core.Path.{◌≡◌, refl, ◌∙◌, ap}
-use mathlib.Core.Bool.{Bool, true, false}
 use mathlib.Core.List.{List, [], ◌∷◌, map}
-use lib.ListN.{length, get_or, length-map}
-use Rattle.subject_rules.specs.Choice.{pick}
-use Rattle.subject_rules.specs.Answers.{answer}
+use lib.ListN.{length, length-map}
 use Rattle.sublist_tree.specs.Lists.{All}
 use Rattle.sublist_tree.specs.Table.{TableEntry}
 use Rattle.sublist_original.specs.Original.{Ok, Std, Sublist, build}
 use Rattle.sublist_original.specs.Entries.{builder_of}
 use Rattle.sublist_snapshot.specs.Snapshot.{Table, empty_table}
 use Rattle.resolve_cache_rules.specs.declared.ResolveCache as ours
-use Rattle.resolve_cache_rules.specs.Area.{Area}
-use Rattle.resolve_cache_rules.specs.Cache.{short, fresh, cache_numbers, with_capacity}
+use Rattle.resolve_cache_rules.proofs.Keeps.{made_is}
 use Rattle.binding.specs.Calls.{Call, store, clearing, asking, resolving, asking_home, resolving_home}
 use Rattle.binding.specs.Demand.{Opened, Lent}
 use Rattle.binding.specs.Built.{BuiltFrom}
@@ -48,17 +44,6 @@ module _ (std : Std) where
       let one = partner any n.1 lent.0 in
       let rest = partners any calls lent.1 in
       ((n, asked one.0 n) ∷ rest.0, ap (λ ns. n ∷ ns) rest.1, ((one.0, refl, one.1), rest.2), (lent.0, rest.3))
-
--- a fresh cache has the capacity that it was made with, 0 turned into 1
-fresh-capacity : (n : ℕ) (c : ours.ResolveCache) (a : Area) → with_capacity n a ≡ answer 0 (cache_numbers c) → max 1 n ≡ c.capacity
-unfolding with_capacity
-fresh-capacity n c a e = go (short (max 1 n) a) e
-  where
-    go : (b : Bool) → pick b (answer 17 []) (answer 0 (cache_numbers (fresh (max 1 n)))) ≡ answer 0 (cache_numbers c) → max 1 n ≡ c.capacity
-    go true e = absurd (cc)
-    go false e =
-        let r : cache_numbers (fresh (max 1 n)) ≡ cache_numbers c = cc in
-        ap (λ (l : List ℕ). get_or l 0 0) r
 
 -- ---- the theorems
 
@@ -111,7 +96,7 @@ original_same std iter ts es calls built lent few areas y opened = record {
     begins = record { tables = λ j. (made j).0; few = λ j. built-few (ts j) (es j) (built j); built = λ j. (made j).1; made = λ j. refl; caches = λ i. (number i, refl) }
 
     alike : (i : ℕ) → (w.caches i).capacity ≡ (y.caches i).cache.capacity
-    alike i = let e : max (number i) 1 ≡ max 1 (number i) = omega arith in e ∙ fresh-capacity (number i) (y.caches i).cache (y.caches i).area ((opened 0).caches_made i).1
+    alike i = let e : max (number i) 1 ≡ max 1 (number i) = omega arith in e ∙ ap (λ (d : ours.ResolveCache). d.capacity) (made_is (number i) (y.caches i).cache (y.caches i).area ((opened 0).caches_made i).1).1
 
 -- the other name of the first call
 pub empty-same : (std : Std) → (table : Sublist ℕ) × (build std (builder_of []) 0 ≡ Ok table) × (empty std ≡ Ok (new table))

@@ -2,4 +2,3 @@
 pub mod Putting
 pub mod Turns
 pub mod Showing
-pub mod Stages

@@ -58,21 +58,21 @@ module _ (filler first second out : List ℕ) (r : std.Option (Unit {0})) (v : W
     where
       go : (o : Option (List ℕ)) → nowhere ≡ text_put o out → nowhere ≡ dotted_in o out
       go none f = refl
-      go (some s) f = let z : ◌≡◌ {A = ℕ} 0 1 = cc in absurd (omega arith)
+      go (some s) f = absurd (cc)
 
   module _ {u : Unit {0}} (h : r ≡ std.Some u) where
     pub together_some : 1 ≤ v.at
     together_some = go (shown_for filler first second) (rw h at (put_is _ refl))
       where
         go : (o : Option (List ℕ)) → upto v.at v.out.now ≡ text_put o out → 1 ≤ v.at
-        go none f = let z : ◌≡◌ {A = ℕ} 0 1 = cc in absurd (omega arith)
+        go none f = absurd (cc)
         go (some s) f = let z : v.at ≡ suc (length s) = cc in omega arith
 
     pub together : (after : List ℕ) → after ≡ v.out.now → upto (v.at - 1) after ≡ dotted_in (shown_for filler first second) out
     together after k = rw k (go (shown_for filler first second) (rw h at (put_is _ refl)))
       where
         go : (o : Option (List ℕ)) → upto v.at v.out.now ≡ text_put o out → upto (v.at - 1) v.out.now ≡ dotted_in o out
-        go none f = let z : ◌≡◌ {A = ℕ} 0 1 = cc in absurd (omega arith)
+        go none f = absurd (cc)
         go (some s) f =
             let z : v.at ≡ suc (length s) = cc in
             let w : v.out.now ≡ sets out 0 (s ++ (0x2e ∷ [])) = cc in
@@ -92,14 +92,14 @@ module _ (o : Option (List ℕ)) (out : List ℕ) where
     where
       go : (o : Option (List ℕ)) → nowhere ≡ dotted_in o [] → outcome (answer 0 (0 ∷ [])) out ≡ show_in o out
       go none e = refl
-      go (some s) e = let z : ◌≡◌ {A = ℕ} 0 1 = cc in absurd (omega arith)
+      go (some s) e = absurd (cc)
 
   module _ (size : ℕ) (rest : List ℕ) (e : upto size rest ≡ dotted_in o []) where
     pub shown-short : length out < size → outcome (answer 21 (size ∷ [])) out ≡ show_in o out
     shown-short h = go o e
       where
         go : (o : Option (List ℕ)) → upto size rest ≡ dotted_in o [] → outcome (answer 21 (size ∷ [])) out ≡ show_in o out
-        go none e = let z : ◌≡◌ {A = ℕ} 0 1 = cc in absurd (omega arith)
+        go none e = absurd (cc)
         go (some s) e = let same : size ≡ length s = cc in rw (same, lt-ltb (length out) (length s) (omega arith))
 
     -- then in so many places
@@ -109,8 +109,8 @@ module _ (o : Option (List ℕ)) (out : List ℕ) where
       where
         go : (o : Option (List ℕ)) (r : std.Option ℕ) → upto size rest ≡ dotted_in o [] → reached r left ≡ dotted_in o (take size out)
             → outcome (answer 0 (1 ∷ size ∷ [])) (left ++ drop size out) ≡ show_in o out
-        go none r e f = let z : ◌≡◌ {A = ℕ} 0 1 = cc in absurd (omega arith)
-        go (some s) std.None e f = let z : ◌≡◌ {A = ℕ} 0 1 = cc in absurd (omega arith)
+        go none r e f = absurd (cc)
+        go (some s) std.None e f = absurd (cc)
         go (some s) (std.Some m) e f =
             let same : size ≡ length s = cc in
             let put : left ≡ sets (take size out) 0 (s ++ (0x2e ∷ [])) = cc in

@@ -162,7 +162,7 @@ fn put_together(first: &[u8], second: &[u8], filler: &[u8], out: &mut [u8]) -> O
 // The length of a shortest subject that two patterns both match, `filler` in each position that is wild in both; none
 // where there is no such subject. The first is parsed before the second. A refusal, and that there is none, leave the
 // output.
-#[tactic(auto, using(crate::proofs::Stages::stages, crate::proofs::Showing::showing))]
+#[tactic(auto, using(crate::proofs::Showing::showing), unfolding(crossing_rules::specs::Crossing::crossing_with))]
 pub fn crossing_with(
     first: &[u8],
     second: &[u8],

@@ -25,7 +25,7 @@ Is P none = ⊥
 Is P (some a) = P a
 
 pub if_is : {A : Type 0} (P : A → Type 0) (o : Option A) (a : A) → If P o → o ≡ some a → P a
-if_is P none a h e = let z : ◌≡◌ {A = ℕ} 0 1 = cc in absurd (omega arith)
+if_is P none a h e = absurd (cc)
 if_is P (some b) a h e = let q : b ≡ a = cc in rw q at h
 
 pub is_if : {A : Type 0} (P : A → Type 0) (o : Option A) → Is P o → If P o

@@ -35,7 +35,7 @@ pub record Matching (pattern subject : List ℕ) : Type 0 where
 
 matches_yes : (b : Bool) → said b ≡ said true → b ≡ true
 matches_yes true e = refl
-matches_yes false e = let z : ◌≡◌ {A = ℕ} 0 1 = cc in absurd (omega arith)
+matches_yes false e = absurd (cc)
 
 pub match_yes : (pattern subject : List ℕ) → matching pattern subject ≡ said true → Matching pattern subject
 unfolding matching
@@ -105,8 +105,8 @@ module _ (filler first second : List ℕ) (f : Accepts first) (s : Accepts secon
   Fitting t = (grammar false t ≡ answer 0 (length (tokens t) ∷ [])) × BothMatch first second t × FilledAt filler (tokens first) (tokens second) (tokens t)
 
   fitting_tokens : (t : List ℕ) (o : Option (List (List ℕ))) → common filler (tokens first) (tokens second) ≡ o → of_tokens o ≡ some t → Fitting t
-  fitting_tokens t none p e = let z : ◌≡◌ {A = ℕ} 0 1 = cc in absurd (omega arith)
-  fitting_tokens t (some ts) p e = by_limit ts (λ o. o ≡ some t → Fitting t) within (λ h q. let z : ◌≡◌ {A = ℕ} 0 1 = cc in absurd (omega arith)) e
+  fitting_tokens t none p e = absurd (cc)
+  fitting_tokens t (some ts) p e = by_limit ts (λ o. o ≡ some t → Fitting t) within (λ h q. absurd (cc)) e
     where
       within : length (joined ts) ≤ 4096 → some (joined ts) ≡ some t → Fitting t
       within short q =

@@ -26,8 +26,8 @@ char_anywhere i j b e = go (or (ltb b 0x20) (eqb b 0x7f)) (or (eqb b 0x2a) (eqb 
   where
     go : (c s : Bool) → pick c (some (answer 8 (b ∷ i ∷ []))) (pick s (some (answer 9 (b ∷ i ∷ []))) none) ≡ none
         → pick c (some (answer 8 (b ∷ j ∷ []))) (pick s (some (answer 9 (b ∷ j ∷ []))) none) ≡ none
-    go true s e = let z : ◌≡◌ {A = ℕ} 0 1 = cc in absurd (omega arith)
-    go false true e = let z : ◌≡◌ {A = ℕ} 0 1 = cc in absurd (omega arith)
+    go true s e = absurd (cc)
+    go false true e = absurd (cc)
     go false false e = refl
 
 chars_anywhere : (i j : ℕ) (bs : List ℕ) → bad_chars i bs ≡ none → bad_chars j bs ≡ none
@@ -37,20 +37,20 @@ chars_anywhere i j (b ∷ bs) e = go (bad_char i b) refl e (chars_anywhere i j b
     go : (o : Option Answer) → bad_char i b ≡ o → first_of o (bad_chars i bs) ≡ none → (bad_chars i bs ≡ none → bad_chars j bs ≡ none)
         → bad_chars j (b ∷ bs) ≡ none
     go none q e h = rw (char_anywhere i j b q) (h e)
-    go (some a) q e h = let z : ◌≡◌ {A = ℕ} 0 1 = cc in absurd (omega arith)
+    go (some a) q e h = absurd (cc)
 
 -- 6 to 9 refuse a token nowhere
 abbrev pub Unbarred : Bool → List ℕ → Type 0
 Unbarred wild t = (index : ℕ) → bad_token wild index t ≡ none
 
 token_anywhere : (wild : Bool) (i : ℕ) (t : List ℕ) → bad_token wild i t ≡ none → Unbarred wild t
-token_anywhere wild i [] e j = let z : ◌≡◌ {A = ℕ} 0 1 = cc in absurd (omega arith)
+token_anywhere wild i [] e j = absurd (cc)
 token_anywhere wild i (b ∷ bs) e j = go (is_wild (b ∷ bs)) wild e
   where
     go : (w v : Bool) → pick w (pick v none (some (answer 7 (b ∷ i ∷ [])))) (bad_chars i (b ∷ bs)) ≡ none
         → pick w (pick v none (some (answer 7 (b ∷ j ∷ [])))) (bad_chars j (b ∷ bs)) ≡ none
     go true true e = refl
-    go true false e = let z : ◌≡◌ {A = ℕ} 0 1 = cc in absurd (omega arith)
+    go true false e = absurd (cc)
     go false v e = chars_anywhere i j (b ∷ bs) e
 
 -- ---- tokens of a text
@@ -66,7 +66,7 @@ Literal = Legal false
 
 -- it has a byte and is no wildcard
 pub unbarred_filled : (wild : Bool) (t : List ℕ) → Unbarred wild t → 1 ≤ length t
-unbarred_filled wild [] u = let e = u 0 in let z : ◌≡◌ {A = ℕ} 0 1 = cc in absurd (omega arith)
+unbarred_filled wild [] u = let e = u 0 in absurd (cc)
 unbarred_filled wild (b ∷ bs) u = omega arith
 
 pub unbarred_plain : (t : List ℕ) → Unbarred false t → is_wild t ≡ false
@@ -74,7 +74,7 @@ unbarred_plain [] u = refl
 unbarred_plain (b ∷ bs) u = go (is_wild (b ∷ bs)) (u 0)
   where
     go : (w : Bool) → pick w (some (answer 7 (b ∷ 0 ∷ []))) (bad_chars 0 (b ∷ bs)) ≡ none → w ≡ false
-    go true e = let z : ◌≡◌ {A = ℕ} 0 1 = cc in absurd (omega arith)
+    go true e = absurd (cc)
     go false e = refl
 
 -- a pattern's token that is no wildcard is one that a subject may have
@@ -86,7 +86,7 @@ pub not_tail : (t : List ℕ) → is_wild t ≡ false → is_tail t ≡ false
 not_tail t e = go (is_star t) e
   where
     go : (s : Bool) → or s (is_tail t) ≡ false → is_tail t ≡ false
-    go true e = let z : ◌≡◌ {A = ℕ} 0 1 = cc in absurd (omega arith)
+    go true e = absurd (cc)
     go false e = e
 
 -- nothing stands behind a `>`
@@ -98,7 +98,7 @@ TailLast (t ∷ ts) = (is_tail t ≡ true → ts ≡ []) × TailLast ts
 pub literals-last : (ts : List (List ℕ)) → All Literal ts → TailLast ts
 literals-last [] a = tt
 literals-last (t ∷ ts) a =
-    ((λ e. let n = not_tail t (unbarred_plain t a.0.unbarred) in let z : ◌≡◌ {A = ℕ} 0 1 = cc in absurd (omega arith)), literals-last ts a.1)
+    ((λ e. let n = not_tail t (unbarred_plain t a.0.unbarred) in absurd (cc)), literals-last ts a.1)
 
 -- ---- what is put together of such tokens is accepted
 
@@ -141,7 +141,7 @@ module _ (wild : Bool) (ts : List (List ℕ)) (a : All (Legal wild) ts) (some' :
 none_behind : (wild b : Bool) (index at : ℕ) (ts : List (List ℕ)) (vs : List ℕ) → check wild (tail_at b at) index ts ≡ answer 0 vs → b ≡ true → ts ≡ []
 none_behind wild true index at [] vs e h = refl
 none_behind wild true index at (t ∷ ts) vs e h = let z : ⊥ = omega (arith, ap number e) in absurd z
-none_behind wild false index at ts vs e h = let z : ◌≡◌ {A = ℕ} 0 1 = cc in absurd (omega arith)
+none_behind wild false index at ts vs e h = absurd (cc)
 
 pub record Checked (wild : Bool) (ts : List (List ℕ)) : Type 0 where
   pub unbarred : All (Unbarred wild) ts

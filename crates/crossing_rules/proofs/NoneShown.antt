@@ -19,5 +19,5 @@ module _ (first second out : List ℕ) where
       said-apart (first_refused a r e) h = let z : ◌≡◌ {A = ℕ} 0 1 = cc r.refusal in absurd (omega arith)
       said-apart (second_refused a f r e) h = let z : ◌≡◌ {A = ℕ} 0 1 = cc r.refusal in absurd (omega arith)
       said-apart (apart f s n e) h = n
-      said-apart (out_short t f s w l e) h = let z : ◌≡◌ {A = ℕ} 0 1 = cc in absurd (omega arith)
-      said-apart (shown t f s w l e) h = let z : ◌≡◌ {A = ℕ} 0 1 = cc in absurd (omega arith)
+      said-apart (out_short t f s w l e) h = absurd (cc)
+      said-apart (shown t f s w l e) h = absurd (cc)

@@ -10,8 +10,9 @@ use lib.ListN.{length, get_or}
 use Rattle.subject_rules.specs.Choice.{pick, or}
 use Rattle.subject_rules.specs.Text.{is_star, is_tail}
 use Rattle.subject_rules.specs.Matching.{match_tokens}
+use Rattle.subject_rules.proofs.Booleans.{and_both}
 use Rattle.sublist_tree.specs.Lists.{All}
-use Rattle.sublist_tree.proofs.Bytes.{and_both, same-sound, same_whole}
+use Rattle.sublist_tree.proofs.Bytes.{same-sound, same_whole}
 use Rattle.crossing_rules.specs.Crossing.{plain, meet, followed, common}
 use Rattle.crossing_rules.specs.Asked.{wild_at}
 use Rattle.crossing_rules.proofs.Texts.{size}

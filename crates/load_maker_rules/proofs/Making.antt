@@ -43,7 +43,7 @@ tokens-last wild (suc zero) s = ((λ e. refl), tt)
 tokens-last wild (suc (suc n)) s =
     let inner = ne_eqb (suc n) 0 (λ e. omega arith) in
     let no : is_tail (token_byte wild (eqb (suc n) 0) (draw s) ∷ []) ≡ false = rw inner (token_inner wild (draw s)) in
-    ((λ e. let z : ◌≡◌ {A = ℕ} 0 1 = cc in absurd (omega arith)), tokens-last wild (suc n) (draw s))
+    ((λ e. absurd (cc)), tokens-last wild (suc n) (draw s))
 
 pub tokens-length : (wild : Bool) (n s : ℕ) → length (made_tokens wild n s) ≡ n
 tokens-length wild zero s = refl

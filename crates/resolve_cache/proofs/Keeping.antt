@@ -1,5 +1,6 @@
 -- What a match through the snapshot and the keeping of its list make of a resolve that walks.
-use Rattle.std.proofs.Common.{◌≡◌, ℕ, zero, suc, ◌≤◌, Bool, true, false, ltb, List, [], ◌∷◌, length, take, drop, refl, ap, ◌∙◌, subst, ltb-false}
+use Rattle.std.proofs.Common.{◌≡◌, ℕ, zero, suc, ◌≤◌, Bool, true, false, ltb, List, [], ◌∷◌, Result, IsErrAnd, length, take, drop, sym, refl, ap, ◌∙◌, subst, ltb-false}
+use Rattle.std.proofs.lemmas.Result.{err_from_is_err_and}
 use lib.Seq.{take-append_seam}
 use Rattle.subject_rules.specs.Choice.{pick}
 use Rattle.subject_rules.specs.Answers.{Answer, answer}
@@ -15,10 +16,13 @@ use Rattle.resolve_cache_rules.specs.declared.ResolveCache.{ResolveCache}
 use Rattle.resolve_cache_rules.specs.Area.{Area, keep}
 use Rattle.resolve_cache_rules.specs.Cache.{adopt, place, ticked, walked, grown, qualifies, in_out, Resolved}
 use Rattle.resolve_cache_rules.specs.Cache.{unchanged, missed, miss, if_accepted}
+use Rattle.sublist_walk.specs.declared.MatchError.{MatchError}
+use Rattle.sublist_walk.specs.Answers.{match_refusal}
+use Rattle.resolve_cache.specs.declared.ListPlace.{ListPlace}
 use Rattle.resolve_cache.specs.declared.ResolveError.{ResolveError}
 use Rattle.resolve_cache.specs.Answers.{resolve_refusal}
 use Rattle.resolve_cache.proofs.Refusals.{refusal-number}
-use Rattle.resolve_cache.specs.Deciding.{Keeps}
+use Rattle.resolve_cache.specs.Deciding.{Keeps, leaving as leaves}
 use Rattle.resolve_cache.proofs.Resolving.{walking}
 
 module _ (c : ResolveCache) (a : Area) (s : Snapshot) (words subject out : List ℕ) where
@@ -86,13 +90,14 @@ module _ (c : ResolveCache) (a : Area) (s : Snapshot) (words subject out : List 
         go true h q = absurd (cc)
         go false h q = (list, cc, cc, ltb-false (length out) (length list) h, refl)
 
-  pub walk_refused : (e : ResolveError) (after : List ℕ) → outcome (resolve_refusal e) after ≡ match_in s words subject out
-      → ◌≡◌ {A = Resolved} (record { says = resolve_refusal e; cache = c; area = a; out = after }) (walking c a s words subject out)
-  walk_refused e after q =
-      let n = refusal-number e in
-      rw n.2
+  pub walk_refused : (why : MatchError) (after : List ℕ) → outcome (match_refusal why) after ≡ match_in s words subject out
+      → (r : Result ListPlace ResolveError) → IsErrAnd r (λ e. resolve_refusal e ≡ match_refusal why) → leaves r c a after ≡ walking c a s words subject out
+  walk_refused why after q r is =
+      let e = err_from_is_err_and r is in
+      let n = refusal-number e.0 in
+      rw (e.1, n.2)
       (refuse s.generation (adopt s.generation c) (grammar false subject) (stands_in s words) (walk_of s words subject) n.0 n.1 after
-      ((rw n.2 at q) ∙ match_walk s words subject out))
+      (ap (λ y. outcome y after) (sym n.2 ∙ e.2) ∙ q ∙ match_walk s words subject out))
 
   pub walk_lists : (count peak n : ℕ) (after : List ℕ) → outcome (answer 0 (count ∷ peak ∷ n ∷ [])) after ≡ match_in s words subject out → Lists count after
   walk_lists count peak n after q =

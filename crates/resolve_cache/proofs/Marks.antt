@@ -6,6 +6,7 @@ use Rattle.std.proofs.lemmas.List.Edits.{length-between, get_or-between}
 use Rattle.std.proofs.lemmas.List.Folds.{list_any_at}
 use Rattle.std.proofs.lemmas.Slice.Zip.{length-zip, get_or-zip}
 use Rattle.subject_rules.specs.Choice.{or}
+use Rattle.subject_rules.proofs.Booleans.{or_same}
 use Rattle.resolve_cache_rules.specs.Mark.{mark}
 use Rattle.resolve_cache_rules.specs.Area.{mark_at}
 use Rattle.resolve_cache_rules.specs.Cache.{bad_slot, bad_from}
@@ -66,10 +67,6 @@ over_sixteen low b h = go (ltb 31 b) refl
         let z : b % 32 ≡ b = omega arith in
         rw (le-ltb 256 (1 + low + 256 * (b / 32)) (omega arith), z)
 
-same_or : (t r : Bool) → (t || r) ≡ or t r
-same_or true r = refl
-same_or false r = refl
-
 -- the bad slots from i on, by the bytes of the second list
 bad-any : (c : ℕ) (keys : List ℕ) (i n : ℕ) → c + i + n ≤ length keys → ((j : ℕ) → get_or keys j 0 < 256)
     → list_any (nat_lt 16) (take n (drop (c + i) keys)) ≡ bad_from c keys i n
@@ -77,7 +74,7 @@ bad-any c keys i zero room byte = refl
 bad-any c keys i (suc n) room byte =
     let next : c + i + 1 ≡ c + suc i = omega arith in
     rw (drop_more keys (c + i) 0 (omega arith), ← (over_sixteen (get_or keys i 0) (get_or keys (c + i) 0) (byte i)), next)
-    (same_or (bad_slot c keys i) (list_any (nat_lt 16) (take n (drop (c + suc i) keys)))
+    (or_same (bad_slot c keys i) (list_any (nat_lt 16) (take n (drop (c + suc i) keys)))
     ∙ ap (or (bad_slot c keys i)) (bad-any c keys (suc i) n (omega arith) byte))
 
 pub bad_read : (c n : ℕ) (keys : List ℕ) → c + n ≤ length keys → ((j : ℕ) → get_or keys j 0 < 256)

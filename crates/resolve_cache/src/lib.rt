@@ -22,7 +22,7 @@ ghost use Rattle.resolve_cache.specs.Deciding.{FirstOf, Roomy};
 
 use resolve_cache_rules::{KEY_BYTES, ResolveCache, SLOT_LISTS, SLOT_TARGETS, Tick};
 use subject::SubjectError;
-use sublist_snapshot::{Generation, Snapshot};
+use sublist_snapshot::{Generation, StandingTable};
 use sublist_walk::MatchError;
 
 // How many slots are looked at together for a mark.
@@ -95,23 +95,24 @@ struct Keys<'a> {
 // The targets of a subject, from the cache or by a walk of the standing table, whose list is then kept.
 // 1 to 9, 17, 18, 19 on the counts; then a hit (21) or a walk (19, 21).
 // Only the stamps change on a hit; a refusal changes nothing.
+// Kept: the C interface lends the slots' three lists apart, and a `&mut Slots` in their place asks for `SameLists` in
+// each contract besides: without it `look_up` does not tell `resolve` what the lists that it was lent hold afterwards.
 pub fn resolve(
     cache: ResolveCache,
     stamps: &mut [u64],
     keys: &mut [u8],
     kept: &mut [u32],
-    snapshot: Snapshot,
-    area: &[u32],
+    standing: &StandingTable<'_>,
     subject: &[u8],
     out: &mut [u32],
 ) -> Resolved
     ensures { left result (lent stamps.new keys.new kept.new) out.new
         ≡ resolve cache (lent stamps.old keys.old kept.old)
-        snapshot area.now subject.now out.old }
+        standing.now.snapshot standing.now.area.now subject.now out.old }
 {
     let mut slots = Slots { stamps, keys, kept };
     let mut next = cache;
-    let answer = slots.look_up(&mut next, snapshot, area, subject, out);
+    let answer = slots.look_up(&mut next, standing, subject, out);
     Resolved {
         cache: next,
         answer,
@@ -236,6 +237,9 @@ impl<'a> Keys<'a> {
     }
 
     // The first of n slots that keeps the list of a subject, run by run.
+    // Not inlined: as a part of `resolve`, whose values take the registers, the loop reads an address from the stack at
+    // each run, and a hit on the last of 1,024 slots takes 193 ns where this takes 182.
+    #[inline(never)]
     fn find(&self, n: usize, subject: &[u8]) -> Option<usize>
         requires { n ≤ self.now.used }
         ensures { FirstOf self.now.capacity self.now.bytes.now subject.now 0 n result }
@@ -396,14 +400,14 @@ impl Slots<'_> {
     fn look_up(
         &mut self,
         cache: &mut ResolveCache,
-        snapshot: Snapshot,
-        area: &[u32],
+        standing: &StandingTable<'_>,
         subject: &[u8],
         out: &mut [u32],
     ) -> Result<ListPlace, ResolveError>
         ensures same { SameLists self.old self.new }
         ensures leaves { leaving result cache.new (area_of self.new) out.new
-            ≡ resolve cache.old (area_of self.old) snapshot area.now subject.now out.old }
+            ≡ resolve cache.old (area_of self.old)
+            standing.now.snapshot standing.now.area.now subject.now out.old }
     {
         subject::parse_literal(subject)?;
         if self.is_short(cache.capacity) {
@@ -412,12 +416,12 @@ impl Slots<'_> {
         let Some(in_use) = self.keys_in_use(*cache) else {
             return Err(ResolveError::BadSlot);
         };
-        if !snapshot.stands_in(area) {
+        if !standing.stands() {
             return Err(ResolveError::Damaged);
         }
-        let current = adopt(*cache, snapshot.generation());
+        let current = adopt(*cache, standing.snapshot.generation());
         let Some(slot) = in_use.find(current.used, subject) else {
-            let found = snapshot.match_parsed(area, subject, out)?;
+            let found = standing.match_parsed(subject, out)?;
             *cache = self.keep_list(current, subject, &out[..found.count]);
             return Ok(ListPlace::Walked { count: found.count });
         };

@@ -1,4 +1,5 @@
 pub mod Faithful
+pub mod Keeps
 pub mod Limits
 pub mod Marked
 pub mod Outputs

@@ -8,22 +8,18 @@
 use Prim.Native.Nat.{ℕ, ◌+◌, ◌*◌, ◌≤◌, ◌<◌, max}
 use native.Mathlib.Omega.{arith}
 use mathlib.Core.Path.{◌≡◌, refl}
-use mathlib.Core.Bool.{Bool, true, false}
+use mathlib.Core.Bool.{false}
 use mathlib.Core.List.{List, [], ◌∷◌}
 use lib.Dec.{ltb}
 use lib.ListN.{length}
 use borrow.Author.Tests.{lt-ltb, le-ltb}
-use Rattle.subject_rules.specs.Choice.{or}
 use Rattle.subject_rules.specs.Answers.{answer}
 use Rattle.subject_rules.specs.Grammar.{grammar}
+use Rattle.subject_rules.proofs.Booleans.{or_true}
 use Rattle.sublist_snapshot.specs.declared.Snapshot.{Snapshot}
 use Rattle.resolve_cache_rules.specs.declared.ResolveCache.{ResolveCache}
 use Rattle.resolve_cache_rules.specs.Area.{Area}
 use Rattle.resolve_cache_rules.specs.Cache.{with_capacity, new_cache, resolve}
-
-or_true : (b : Bool) → or b true ≡ true
-or_true true = refl
-or_true false = refl
 
 module _ (n : ℕ) (a : Area) where
   pub capacity-over : 1024 < n → with_capacity n a ≡ answer 17 []

@@ -10,42 +10,35 @@ use mathlib.Core.List.{List, [], ◌∷◌}
 use mathlib.Core.Option.{Option, none, some}
 use lib.Dec.{eqb, ltb}
 use lib.ListN.{length}
-use borrow.Author.Tests.{ltb-false, eqb-true, eqb-false}
+use borrow.Author.Tests.{ltb-false, eqb-false}
 use Rattle.subject_rules.specs.Choice.{pick, or}
 use Rattle.subject_rules.specs.Answers.{Answer, answer}
 use Rattle.subject_rules.specs.Grammar.{grammar}
 use Rattle.sublist_walk_rules.specs.Walk.{Walked, found, failed}
-use Rattle.sublist_snapshot.specs.declared.Generation.{Generation}
 use Rattle.sublist_snapshot.specs.declared.Snapshot.{Snapshot}
 use Rattle.sublist_snapshot.specs.Snapshot.{stands_in, walk_of}
 use Rattle.resolve_cache_rules.specs.declared.ResolveCache.{ResolveCache}
 use Rattle.resolve_cache_rules.specs.Mark.{mark}
-use Rattle.resolve_cache_rules.specs.Area.{Area, target_count, mark_at, key_at, keep, touch}
-use Rattle.resolve_cache_rules.specs.Cache.{short, bad_from, bad, find_from, place, cache_numbers, with_capacity, emptied, clear, adopt}
-use Rattle.resolve_cache_rules.specs.Cache.{ticked, hit, grown, in_kept, Resolved, unchanged, missed, work_by, if_accepted, resolve}
-use Rattle.resolve_cache_rules.specs.Ready.{Wide}
-use Rattle.resolve_cache_rules.proofs.Slots.{or_false, short-wide, Fit, alike_fit, keep_fit, keep_other, small_from, place_grows}
-use Rattle.resolve_cache_rules.proofs.Faithful.{accepted_some, missed_either, fresh_faithful}
+use Rattle.resolve_cache_rules.specs.Area.{Area, target_count, mark_at, key_at, touch}
+use Rattle.resolve_cache_rules.specs.Cache.{short, bad_from, bad, find_from, cache_numbers, with_capacity, clear, adopt}
+use Rattle.resolve_cache_rules.specs.Cache.{ticked, hit, in_kept, Resolved, unchanged, missed, work_by, if_accepted, resolve}
+use Rattle.resolve_cache_rules.proofs.Slots.{or_false, short-wide, small_from}
+use Rattle.resolve_cache_rules.proofs.Keeps.{Keeps, Anything, fresh_keeps, adopted_keeps, grown_keeps, missed_either}
+use Rattle.resolve_cache_rules.proofs.Faithful.{accepted_some}
 
 -- the mark of each slot in use is its key's
 abbrev pub Marked : ResolveCache → Area → Type 0
 Marked c a = (i : ℕ) → i < c.used → mark_at c.capacity a.keys i ≡ mark (key_at c.capacity a.keys i)
 
 pub fresh-marked : (n : ℕ) (c : ResolveCache) (a : Area) → with_capacity n a ≡ answer 0 (cache_numbers c) → Marked c a
-fresh-marked n c a e i h = ((fresh_faithful (λ x. []) n c a e).small i h).mark
+fresh-marked n c a e i h = ((fresh_keeps Anything n c a e).small i h).mark
 
 pub cleared-marked : (c : ResolveCache) (a : Area) → Marked (clear c) a
 unfolding clear
 cleared-marked c a i h = absurd (omega arith)
 
--- neither 17 nor 18 applies, and the marks are the keys'
-record Sorted (c : ResolveCache) (a : Area) : Type 0 where
-  wide : Wide c.capacity a
-  any : 1 ≤ c.capacity
-  fits : c.used ≤ c.capacity
-  small : (i : ℕ) → i < c.used → Fit c.capacity a.keys i
-
-sorted : (c : ResolveCache) (a : Area) → short c.capacity a ≡ false → bad c a ≡ false → Marked c a → Sorted c a
+-- neither 17 nor 18 applies
+sorted : (c : ResolveCache) (a : Area) → short c.capacity a ≡ false → bad c a ≡ false → Marked c a → Keeps Anything c a
 sorted c a s b m =
     let p = or_false (eqb c.capacity 0) (or (ltb c.capacity c.used) (bad_from c.capacity a.keys 0 c.used)) b in
     let q = or_false (ltb c.capacity c.used) (bad_from c.capacity a.keys 0 c.used) p.1 in
@@ -54,37 +47,17 @@ sorted c a s b m =
       any = omega (arith, eqb-false c.capacity 0 p.0);
       fits = ltb-false c.capacity c.used q.0;
       small = λ i h. let k = small_from c.capacity a.keys 0 c.used q.1 i (omega arith) (omega arith) in record { length = k.0; count = k.1; mark = m i h };
+      each = λ i h. tt;
     }
-
-sorted_on : (g : Generation) (c : ResolveCache) (a : Area) → Sorted c a → Sorted (adopt g c) a
-sorted_on g c a f = go (eqb c.generation.0 g.0)
-  where
-    go : (b : Bool) → Sorted (pick b c (emptied g c)) a
-    go true = f
-    go false = record { wide = f.wide; any = f.any; fits = omega arith; small = λ i h. absurd (omega arith) }
 
 module _ (c : ResolveCache) (a : Area) (subject out : List ℕ) (m : Marked c a) where
   abbrev Leaves : Resolved → Type 0
   Leaves r = Marked r.cache r.area
 
-  module _ (filled : 1 ≤ length subject) (e : ResolveCache) (f : Sorted e a) where
-    kept : (list : List ℕ) → length subject ≤ 256 → length list ≤ 16 → Marked (grown e) (keep e.capacity a (place e a) subject list (ticked e).0)
-    kept list s t j k = slot (eqb j (place e a)) refl
-      where
-        slot : (b : Bool) → eqb j (place e a) ≡ b
-            → mark_at e.capacity (keep e.capacity a (place e a) subject list (ticked e).0).keys j
-            ≡ mark (key_at e.capacity (keep e.capacity a (place e a) subject list (ticked e).0).keys j)
-        slot true z =
-            let w = place_grows e a f.any f.fits in
-            rw (eqb-true j (place e a) z) (keep_fit e.capacity a f.wide (place e a) w.inside subject list (ticked e).0 filled s t).mark
-        slot false z =
-            let w = place_grows e a f.any f.fits in
-            let u = w.others j (eqb-false j (place e a) z) k in
-            let o = keep_other e.capacity a f.wide (place e a) w.inside subject list (ticked e).0 filled s t j (eqb-false j (place e a) z) (omega (arith, u, f.fits)) (f.small j u) in
-            (alike_fit e.capacity a (keep e.capacity a (place e a) subject list (ticked e).0) j o (f.small j u)).mark
-
+  module _ (filled : 1 ≤ length subject) (e : ResolveCache) (f : Keeps Anything e a) where
     missed-marked : (list : List ℕ) → Leaves (missed c a subject out e list)
-    missed-marked list = missed_either c a subject out e list Leaves (kept list) (λ i h. (f.small i h).mark)
+    missed-marked list =
+        missed_either c a subject out e list Leaves (λ s t i h. ((grown_keeps Anything e a f subject list tt filled s t).small i h).mark) (λ i h. (f.small i h).mark)
 
     work-marked : (o : Option ℕ) (w : Walked) → Leaves (work_by c a subject out o e w)
     work-marked (some i) w = go (ltb (length out) (target_count e.capacity a.keys i))
@@ -115,5 +88,6 @@ module _ (c : ResolveCache) (a : Area) (subject out : List ℕ) (m : Marked c a)
       go (answer zero values) q false p true r stands = m
       go (answer zero values) q false p false r false = m
       go (answer zero values) q false p false r true =
-          work-marked (accepted_some subject values q) (adopt s.generation c) (sorted_on s.generation c a (sorted c a p r m))
+          let k = sorted c a p r m in
+          work-marked (accepted_some subject values q) (adopt s.generation c) (adopted_keeps Anything s.generation c a k.wide k.any (λ z. k))
           (find_from (adopt s.generation c).capacity a.keys subject 0 (adopt s.generation c).used) (walk_of s area subject)

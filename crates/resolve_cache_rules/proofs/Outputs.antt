@@ -16,10 +16,11 @@ use Rattle.subject_rules.specs.Outputs.{over}
 use Rattle.sublist_snapshot.specs.declared.Snapshot.{Snapshot}
 use Rattle.sublist_snapshot.specs.Snapshot.{stands_in, walk_of}
 use Rattle.resolve_cache_rules.specs.declared.ResolveCache.{ResolveCache}
-use Rattle.resolve_cache_rules.specs.Area.{Area, target_count, keep, touch}
-use Rattle.resolve_cache_rules.specs.Cache.{short, bad, find_from, place, adopt, ticked, hit, walked, grown, qualifies}
-use Rattle.resolve_cache_rules.specs.Cache.{in_kept, in_out, list_at, Resolved, unchanged, hit_at, miss, work_by}
+use Rattle.resolve_cache_rules.specs.Area.{Area, target_count, touch}
+use Rattle.resolve_cache_rules.specs.Cache.{short, bad, find_from, adopt, ticked, hit, qualifies}
+use Rattle.resolve_cache_rules.specs.Cache.{in_kept, list_at, Resolved, unchanged, hit_at, miss, work_by}
 use Rattle.resolve_cache_rules.specs.Cache.{if_accepted, resolve}
+use Rattle.resolve_cache_rules.proofs.Keeps.{missed_if}
 
 -- by the answer's number
 abbrev pub Leaves : ResolveCache → Area → List ℕ → Resolved → Answer → Type 0
@@ -42,10 +43,7 @@ module _ (c : ResolveCache) (a : Area) (subject out : List ℕ) where
   miss_leaves e (found list peak) = go (ltb (length out) (length list)) (qualifies subject list)
     where
       go : (b d : Bool)
-          → let r : Resolved = pick b (unchanged c a subject out (answer 21 (length list ∷ [])))
-          (pick d
-          (record { says = in_out (length list); cache = grown e; area = keep e.capacity a (place e a) subject list (ticked e).0; out = over list out })
-          (record { says = in_out (length list); cache = walked e; area = a; out = over list out })) in
+          → let r : Resolved = pick b (unchanged c a subject out (answer 21 (length list ∷ []))) (missed_if c a subject out e list d) in
           Leaves c a out r r.says
       go true d = (refl, refl, refl)
       go false true = inr (ap (λ (l : List ℕ). over l out) (sym (take-append_seam list (drop (length list) out))))

@@ -4,7 +4,7 @@ use native.Mathlib.Omega.{arith}
 use mathlib.Core.Path.{◌≡◌, sym, ◌∙◌, ap}
 use mathlib.Core.List.{List, ◌++◌, append_assoc}
 use lib.ListN.{length, take, drop, get_or, length-append, length-drop, take-append-drop, get_or-append}
-use lib.Seq.{take-append_seam, take-append-le, drop-append-le, drop-append-add, get_or-append-add, get_or-drop, get_or-take}
+use lib.Seq.{take-append_seam, take-append-le, drop-append-le, drop-append-add, get_or-take}
 use lib.Seq.{drop-drop, length-take-le, drop_at}
 use Rattle.sublist_walk_rules.specs.Walk.{part}
 use Rattle.sublist_tree.specs.Lists.{put}
@@ -48,23 +48,7 @@ module _ (xs : List ℕ) (from : ℕ) (new : List ℕ) (fits : from + length new
       ∙ ap (take n) (drop-drop (at - (from + length new)) (from + length new) xs)
       ∙ ap (λ k. part xs k n) (sym f)
 
-  pub get_d_put_in : (k d : ℕ) → k < length new → get_or (put xs from new) (from + k) d ≡ get_or new k d
-  get_d_put_in k d h =
-      ap (λ m. get_or (put xs from new) (m + k) d) (sym front)
-      ∙ get_or-append-add (take from xs) (new ++ drop (from + length new) xs) k d
-      ∙ get_or-append new (drop (from + length new) xs) d k h
-
   pub get_d_put-before : (j d : ℕ) → j < from → get_or (put xs from new) j d ≡ get_or xs j d
   get_d_put-before j d h =
       get_or-append (take from xs) (new ++ drop (from + length new) xs) d j (omega (arith, front))
       ∙ get_or-take from xs j d h
-
-  pub get_d_put_behind : (j d : ℕ) → from + length new ≤ j → get_or (put xs from new) j d ≡ get_or xs j d
-  get_d_put_behind j d h =
-      let e : j ≡ length (take from xs ++ new) + (j - (from + length new)) = omega (arith, both) in
-      let f : j ≡ (from + length new) + (j - (from + length new)) = omega arith in
-      ap (λ l. get_or l j d) (sym (append_assoc (take from xs) new (drop (from + length new) xs)))
-      ∙ ap (λ k. get_or ((take from xs ++ new) ++ drop (from + length new) xs) k d) e
-      ∙ get_or-append-add (take from xs ++ new) (drop (from + length new) xs) (j - (from + length new)) d
-      ∙ get_or-drop (from + length new) xs (j - (from + length new)) d
-      ∙ ap (λ k. get_or xs k d) (sym f)

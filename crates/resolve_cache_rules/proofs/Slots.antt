@@ -10,8 +10,9 @@ use lib.Dec.{eqb, ltb}
 use lib.ListN.{length, get_or, set, take, length-take, length-drop, length-set}
 use lib.Seq.{get_or-set_same, get_or-set_other, drop-set-lt}
 use borrow.Author.Tests.{ltb-true, ltb-false, le-ltb, eqb-true, eqb-false, eq-eqb}
-use Rattle.subject_rules.specs.Choice.{pick, and, or}
+use Rattle.subject_rules.specs.Choice.{pick, or}
 use Rattle.subject_rules.specs.Text.{same}
+use Rattle.subject_rules.proofs.Booleans.{and_both}
 use Rattle.sublist_tree.proofs.Bytes.{same-sound, same_whole}
 use Rattle.sublist_walk_rules.specs.Walk.{part}
 use Rattle.sublist_tree.specs.Lists.{put}
@@ -273,10 +274,6 @@ small_from c keys i (suc n) e j h k = go (eqb i j) refl (λ l. small_from c keys
     go true q ih = rw (sym (eqb-true i j q)) here
     go false q ih = ih (omega (arith, eqb-false i j q))
 
-pub and_true : (x y : Bool) → and x y ≡ true → (x ≡ true) × (y ≡ true)
-and_true true y e = (refl, e)
-and_true false y e = (e, cc)
-
 pub record Found (c : ℕ) (keys subject : List ℕ) (i n j : ℕ) : Type 0 where
   pub from : i ≤ j
   pub below : j < i + n
@@ -290,7 +287,7 @@ find-sound c keys subject i (suc n) j e = go (keeps_at c keys subject i) refl e 
         → (find_from c keys subject (suc i) n ≡ some j → Found c keys subject (suc i) n j) → Found c keys subject i (suc n) j
     go true q e ih =
         let r : i ≡ j = cc in
-        let both = and_true (eqb (mark_at c keys i) (mark subject)) (same (key_at c keys i) subject) q in
+        let both = and_both (eqb (mark_at c keys i) (mark subject)) (same (key_at c keys i) subject) q in
         record { from = omega arith; below = omega arith; key = ap (key_at c keys) (sym r) ∙ same-sound (key_at c keys i) subject both.1 }
     go false q e ih = let f = ih e in record { from = omega (arith, f.from); below = omega (arith, f.below); key = f.key }
 

@@ -1,7 +1,7 @@
 -- The calls on bytes, by what the copies of their areas are: whether the copies hold them, how long numbers and their
 -- bytes are, and what a match on the copies says of the match on the bytes.
 use Rattle.std.specs.Result.{is_ok}
-use Rattle.std.proofs.Common.{Result, Ok, Err, ◌≡◌, ℕ, zero, suc, ◌+◌, ◌*◌, ◌/◌, ◌≤◌, true, false, List, [], length, refl, sym, ap, ◌∙◌}
+use Rattle.std.proofs.Common.{Result, Ok, Err, ◌≡◌, ℕ, zero, suc, ◌*◌, ◌/◌, ◌<◌, ◌≤◌, true, false, List, [], ◌∷◌, length, sum, refl, sym, ap, ◌∙◌, arith}
 use Rattle.std.proofs.lemmas.Bool.{false≢true}
 use Rattle.std.proofs.Math.Nat.{div-mul-le_self}
 use Rattle.subject_rules.specs.Answers.{Answer, answer, when_accepted}
@@ -20,7 +20,7 @@ use Rattle.subject_rules.specs.Outputs.{outcome, over}
 use Rattle.sublist_walk_rules.specs.Matching.{match_table}
 use Rattle.router_bytes_rules.specs.Bytes.{numbers_in, bytes_of, words_in, on_bytes, match_bytes}
 use Rattle.router_bytes_rules.proofs.Spelled.{length-numbers_in}
-use Rattle.router_bytes_rules.proofs.Limits.{match_taken}
+use Rattle.router_bytes_rules.proofs.Limits.{match_taken, match_99}
 
 -- a refused match leaves what was there
 pub refused : (e : MatchError) (new old : List ℕ) → old ≡ after_answer (match_refusal e) new old
@@ -55,13 +55,30 @@ fit width bytes was now e long =
     let count : length now ≡ length bytes / width = long ∙ ap length e ∙ length-numbers_in width bytes in
     rw count (div-mul-le_self (length bytes) width)
 
-module _ (n m : ℕ) (nodes targets subject out : List ℕ) (small : length nodes + length targets + length out ≤ 65536) where
-  pub matched : (a : Answer) (words node_words target_words out_words bytes : List ℕ)
-      → node_words ≡ words_in nodes → target_words ≡ words_in targets → out_words ≡ words_in out
-      → outcome a words ≡ match_table n m node_words target_words subject out_words
-      → bytes ≡ after_answer a (over (bytes_of 4 words) out) out
-      → outcome a bytes ≡ match_bytes n m nodes targets subject out
-  matched a words node_words target_words out_words bytes e f g found left =
-      ap (outcome a) left
-      ∙ ap (λ o. on_bytes o out) (found ∙ rw (e, f, g))
-      ∙ sym (match_taken n m nodes targets subject out small)
+-- a match on bytes, where sizes is the sum of its areas' lengths
+module _ (n m : ℕ) (nodes targets subject out : List ℕ) where
+  abbrev sizes : ℕ
+  sizes = sum (length nodes ∷ length targets ∷ length out ∷ [])
+
+  -- 99
+  pub match_full : 65536 < sizes → outcome (answer 99 []) out ≡ match_bytes n m nodes targets subject out
+  match_full over = sym (match_99 n m nodes targets subject out (omega (arith, over)))
+
+  -- the match on the copies answers a and leaves words
+  module _ (small : sizes ≤ 65536) (a : Answer) (words node_words target_words out_words : List ℕ) where
+    matched : node_words ≡ words_in nodes → target_words ≡ words_in targets → out_words ≡ words_in out → outcome a words ≡ match_table n m node_words target_words subject out_words
+        → outcome a (after_answer a (over (bytes_of 4 words) out) out) ≡ match_bytes n m nodes targets subject out
+    matched e f g found = ap (λ o. on_bytes o out) (found ∙ rw (e, f, g)) ∙ sym (match_taken n m nodes targets subject out (omega (arith, small)))
+
+  module _ (small : sizes ≤ 65536) (words node_words target_words out_words : List ℕ) (e : node_words ≡ words_in nodes) (f : target_words ≡ words_in targets) (g : out_words ≡ words_in out) where
+    -- 1 to 9, 19, 21
+    pub match_refused : (why : MatchError) → outcome (match_refusal why) words ≡ match_table n m node_words target_words subject out_words
+        → outcome (match_refusal why) out ≡ match_bytes n m nodes targets subject out
+    match_refused why found = ap (outcome (match_refusal why)) (refused why (over (bytes_of 4 words) out) out) ∙ matched small (match_refusal why) words node_words target_words out_words e f g found
+
+    pub match_found : (values bytes : List ℕ) → outcome (answer 0 values) words ≡ match_table n m node_words target_words subject out_words → bytes ≡ over (bytes_of 4 words) out
+        → outcome (answer 0 values) bytes ≡ match_bytes n m nodes targets subject out
+    match_found values bytes found left = ap (outcome (answer 0 values)) left ∙ matched small (answer 0 values) words node_words target_words out_words e f g found
+
+-- each way that refuses a match
+pub ruleset match_down = (match_full, match_refused)

@@ -12,7 +12,7 @@ ghost use Rattle.router_bytes.specs.Answers.{bytes_match_answer, left_bytes};
 
 use resolve_cache::{ListPlace, ResolveError};
 use resolve_cache_rules::ResolveCache;
-use sublist_snapshot::Snapshot;
+use sublist_snapshot::{Snapshot, StandingTable};
 use sublist_walk::{MatchError, Table, TableMatch};
 
 // The copies of a call's areas hold so many bytes.
@@ -135,6 +135,7 @@ fn copies_full(sizes: &[usize]) -> bool
 }
 
 // The match on areas of bytes; whole words count. 99 if the three areas are together more than the copies hold.
+#[tactic(auto, using(crate::proofs::Copies::match_down))]
 pub fn match_bytes(
     nodes: usize,
     targets: usize,
@@ -168,6 +169,8 @@ pub fn match_bytes(
 
 // The resolve on areas of bytes, eight bytes a number of `stamps` and four a word of the others; whole ones count.
 // 99 if stamps, kept, area and out are together more than the copies hold.
+// Kept: the snapshot and its area are two parameters, since the area is bytes here, and a `StandingTable` has words.
+#[tactic(auto, using(crate::proofs::Resolving::resolve_full))]
 pub fn resolve_bytes(
     cache: ResolveCache,
     stamps: &mut [u8],
@@ -196,13 +199,16 @@ pub fn resolve_bytes(
     let (kept_words, _) = load(kept, &mut kept_copy);
     let (area_words, _) = load(area, &mut area_copy);
     let (out_words, _) = load(out, &mut out_copy);
+    let standing = StandingTable {
+        snapshot,
+        area: area_words,
+    };
     let resolved = resolve_cache::resolve(
         cache,
         stamp_numbers,
         keys,
         kept_words,
-        snapshot,
-        area_words,
+        &standing,
         subject,
         out_words,
     );

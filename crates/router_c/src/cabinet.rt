@@ -17,7 +17,7 @@ use router_bytes::{BytesError, BytesResolved};
 use router_words::{
     CAnswer, CCache, CMadeCache, CMadeSnapshot, CMove, CResolved, CSnapshot, CStored, CVerdict,
 };
-use sublist_snapshot::{Generation, Snapshot, Sublist};
+use sublist_snapshot::{Generation, Snapshot, StandingTable, Sublist};
 
 // A snapshot of a first table, whose words are copied to the area, stamped 0; the generation that build gave it is not
 // used. Its state, or why not.
@@ -71,6 +71,17 @@ pub fn router_store(
     standing.store(table, node_words, target_words, area).into()
 }
 
+// The standing table, which C lends as a snapshot and an area.
+fn standing_table(snapshot: CSnapshot, area: &[u32]) -> StandingTable<'_>
+    ensures { (result.snapshot ≡ snapshot_of snapshot)
+        × (result.area.now ≡ area.now) }
+{
+    StandingTable {
+        snapshot: snapshot.into(),
+        area,
+    }
+}
+
 // The targets that a subject matches in the standing table, written over the first places of the output.
 // The answer has their number, the peak and the generation, or why not.
 pub fn router_snapshot_match(
@@ -82,8 +93,9 @@ pub fn router_snapshot_match(
     ensures { Writes result out.new
         (match_in (snapshot_of snapshot) area.now subject.now out.old) }
 {
-    let standing = Snapshot::from(snapshot);
-    standing.match_into(area, subject, out).into()
+    standing_table(snapshot, area)
+        .match_into(subject, out)
+        .into()
 }
 
 // A fresh cache of so many slots in the lent areas, a stamp, 260 bytes and 16 targets a slot, or why not.
@@ -118,8 +130,8 @@ pub fn router_resolve(
         (snapshot_of snapshot) area.now subject.now out.old) }
 {
     let own = ResolveCache::from(cache);
-    let standing = Snapshot::from(snapshot);
-    resolve(own, stamps, keys, kept, standing, area, subject, out).into()
+    let standing = standing_table(snapshot, area);
+    resolve(own, stamps, keys, kept, &standing, subject, out).into()
 }
 
 // A resolve on bytes: what the resolve on the copies tells, or 99; then the cache.
@@ -178,8 +190,8 @@ pub fn router_resolve_single_home(
     ensures { Judges result out.new
         (resolve_single_home (snapshot_of snapshot) area.now subject.now out.old) }
 {
-    let standing = Snapshot::from(snapshot);
-    binding::resolve_single_home(standing, area, subject, out).into()
+    let standing = standing_table(snapshot, area);
+    binding::resolve_single_home(&standing, subject, out).into()
 }
 
 // The verdict on the list that a resolve hands back, or why not; then the cache afterwards.
@@ -198,10 +210,8 @@ pub fn router_resolve_single_home_cached(
         (snapshot_of snapshot) area.now subject.now out.old) }
 {
     let own = ResolveCache::from(cache);
-    let standing = Snapshot::from(snapshot);
-    binding::resolve_single_home_cached(
-        own, stamps, keys, kept, standing, area, subject, out,
-    ).into()
+    let standing = standing_table(snapshot, area);
+    binding::resolve_single_home_cached(own, stamps, keys, kept, &standing, subject, out).into()
 }
 
 // Up to 64 subjects routed together by the standing table; two numbers a subject say where it lies in the bytes, start
@@ -218,6 +228,6 @@ pub fn router_whole_move(
         (whole_move (snapshot_of snapshot) area.now bytes.now (spans_in spans.now)
         out.old) }
 {
-    let standing = Snapshot::from(snapshot);
-    whole_move::whole_move(standing, area, bytes, spans, out).into()
+    let standing = standing_table(snapshot, area);
+    whole_move::whole_move(&standing, bytes, spans, out).into()
 }

@@ -1,6 +1,7 @@
 -- The marks of eight bytes, by sums that do not carry.
 use Rattle.std.proofs.Common.{◌≡◌, ℕ, ◌+◌, ◌*◌, ◌^◌, ◌<◌, Bool, true, eqb, List, [], ◌∷◌, map, length, replicate, sym, refl, ap, ◌∙◌, arith, eqb-true}
 use lib.Bits.{bit_and, bit_or, bit_xor, and_block, or_block, xor_block, and_lt, or_lt, xor_lt, and_le_r}
+use Rattle.std.proofs.lemmas.List.{map-id}
 use Rattle.subject.specs.Words.{spell}
 use Rattle.subject.specs.Spelling.{is_dot, is_barred, mark, marks}
 use Rattle.subject.proofs.Bytewise.{Bytes, Small, bytewise, sums, up_to, tested}
@@ -43,10 +44,6 @@ each_same : (c : ℕ) (bs : List ℕ) → spell (map (λ b. c) bs) ≡ spell (re
 each_same c [] = refl
 each_same c (b ∷ bs) = ap (λ (n : ℕ). c + 256 * n) (each_same c bs)
 
-themselves : (bs : List ℕ) → map (λ b. b) bs ≡ bs
-themselves [] = refl
-themselves (b ∷ bs) = ap (λ (l : List ℕ). b ∷ l) (themselves bs)
-
 -- no sum leaves the word
 pub other_fits : (w c : ℕ) → c < 2 ^ 63 → bit_xor (bit_and w 0x7f7f7f7f7f7f7f7f) c + 0x7f7f7f7f7f7f7f7f < 2 ^ 64
 other_fits w c l = omega (arith, xor_lt 63 (bit_and w 0x7f7f7f7f7f7f7f7f) c (omega (arith, and_le_r w 0x7f7f7f7f7f7f7f7f)) l)
@@ -54,7 +51,7 @@ other_fits w c l = omega (arith, xor_lt 63 (bit_and w 0x7f7f7f7f7f7f7f7f) c (ome
 module _ {bs : List ℕ} {w : ℕ} (t : Eight bs w) where
   -- the bytes themselves, and the same byte eight times
   bytes : Made bs w (λ b. b)
-  bytes = record { spelt = rw (themselves bs) t.spelt; small = λ b l. l }
+  bytes = record { spelt = rw (map-id bs) t.spelt; small = λ b l. l }
 
   copies : (c : ℕ) → c < 256 → Made bs (spell (replicate 8 c)) (λ b. c)
   copies c l = record { spelt = sym (rw t.eight at (each_same c bs)); small = λ b h. l }

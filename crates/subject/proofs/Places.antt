@@ -52,7 +52,7 @@ part-found text at start end next k e f = go (leb at (length text)) refl
         record { within = (omega arith, omega arith); moves = (omega arith, omega arith); left = rw (← p, ← d, ← n) (tokens-next text at h) }
     go false g =
         let t = token_none text at (leb-false at (length text) g) in
-        let z : ◌≡◌ {A = ℕ} 0 1 = cc in absurd (omega arith)
+        absurd (cc)
 
 -- where none is found, the text has ended
 pub end-found : (text : List ℕ) (at : ℕ) (k : Option Token) → k ≡ token_at text at → k ≡ None → length text < at
@@ -61,7 +61,7 @@ end-found text at k e f = go (leb at (length text)) refl
     go : (b : Bool) → leb at (length text) ≡ b → length text < at
     go true g =
         let t = token_here text at (leb-true at (length text) g) in
-        let z : ◌≡◌ {A = ℕ} 0 1 = cc in absurd (omega arith)
+        absurd (cc)
     go false g = leb-false at (length text) g
 
 -- the token at position `at` is the first of those left
@@ -91,7 +91,7 @@ module _ (text : List ℕ) (at : ℕ) (k : Option Token) (e : k ≡ token_at tex
           rw (e, past_here text at h) (sym (place-next text at h n))
       go false g =
           let z = token_none text at (leb-false at (length text) g) in
-          let x : ◌≡◌ {A = ℕ} 0 1 = cc in absurd (omega arith)
+          absurd (cc)
 
 -- past the last token there is none
 place-past : (ts : List (List ℕ)) (at n : ℕ) → length ts ≤ n → place_in at ts n ≡ None
@@ -159,3 +159,8 @@ fourth_token = refl
 
 empty-text : place_in 0 (tokens []) 0 ≡ Some (part 0 0 1)
 empty-text = refl
+
+-- where a reader finds a token, and where it finds none
+pub ruleset found = (part-found, end-found, tokens-end)
+
+pub ruleset reads = (first_read, none_read, next_read)

@@ -4,6 +4,7 @@ use mathlib.Core.Option.{none}
 use Rattle.subject_rules.specs.Choice.{pick, and, or}
 use Rattle.subject_rules.specs.Text.{cut_at, tokens, is_star, is_tail}
 use Rattle.subject_rules.specs.Grammar.{bad_char, bad_chars}
+use Rattle.subject_rules.proofs.Booleans.{or_left, or_right}
 use Rattle.subject.specs.Spelling.{is_dot, is_barred}
 use Rattle.subject.specs.Plain.{one, plain_from}
 use Rattle.subject.proofs.Sequences.{Ascii}
@@ -14,14 +15,6 @@ pub record Fair (b : ℕ) : Type 0 where
   ascii : b < 0x7f
   no_star : eqb b 0x2a ≡ false
   no_tail : eqb b 0x3e ≡ false
-
-or_left : (a b : Bool) → or a b ≡ false → a ≡ false
-or_left true b e = e
-or_left false b e = refl
-
-or_right : (a b : Bool) → or a b ≡ false → b ≡ false
-or_right true b e = let y : true ≡ false = e in cc
-or_right false b e = e
 
 fair : (b : ℕ) → is_barred b ≡ false → Fair b
 fair b e =

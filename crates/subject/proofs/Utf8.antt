@@ -1,13 +1,14 @@
 -- The sequences of the table are the characters of std's UTF-8.
-use Rattle.std.proofs.Common.{◌≡◌, ◌⊎◌, inl, inr, ℕ, suc, ◌+◌, ◌-◌, ◌*◌, ◌/◌, ◌<◌, ◌≤◌, Bool, true, false, leb, List, [], ◌∷◌, ◌++◌, length, take, refl, ◌∙◌, subst, arith, le-ltb, lt-ltb, le-leb, leb-true}
+use Rattle.std.proofs.Common.{◌≡◌, ◌⊎◌, inl, inr, ℕ, suc, ◌+◌, ◌-◌, ◌*◌, ◌/◌, ◌<◌, ◌≤◌, Bool, true, false, List, [], ◌∷◌, ◌++◌, length, take, refl, ◌∙◌, subst, arith, le-ltb, lt-ltb, le-leb}
 use native.Mathlib.Decide.{dec_lt}
 use lib.Utf8.{scalar, next, encode, low_scalar, scalar_cases}
 use Rattle.std.specs.Str.{IsUtf8}
+use Rattle.std.proofs.lemmas.Bool.{false≢true}
 use Rattle.std.proofs.lemmas.Str.{IsUtf8-encode}
 use Rattle.subject_rules.specs.Choice.{pick}
 use Rattle.subject_rules.specs.Utf8.{Range, range, tail, well_formed, within, begins, sequence}
-use Rattle.subject_rules.proofs.Booleans.{and_false, and_left, and_right}
-use Rattle.subject_rules.proofs.Lines.{inside, lines, narrowed}
+use Rattle.subject_rules.proofs.Booleans.{and_false}
+use Rattle.subject_rules.proofs.Lines.{inside, begins_true, lines, narrowed}
 use Rattle.subject_rules.proofs.Ascii.{sequence_ascii}
 
 -- the bytes of a character, by how many they are
@@ -75,17 +76,6 @@ high_scalar c l h = rw (le-ltb c 55296 (omega arith), le-leb 57344 c l, lt-ltb c
 of_scalar : (c : ℕ) → scalar c ≡ true → {bs : List ℕ} → encode c ≡ bs → IsUtf8 bs
 of_scalar c s e = subst IsUtf8 e (IsUtf8-encode c s)
 
-in_range : (low high b : ℕ) → within (range low high) b ≡ true → (low ≤ b) × (b ≤ high)
-in_range low high b e = (leb-true low b (and_left _ (leb b high) e), leb-true b high (and_right (leb low b) _ e))
-
-begun : (low high : ℕ) (rs : List Range) (b : ℕ) (bs : List ℕ) → begins (range low high ∷ rs) (b ∷ bs) ≡ true → (low ≤ b) × (b ≤ high) × (begins rs bs ≡ true)
-begun low high rs b bs e =
-    let w = in_range low high b (and_left _ (begins rs bs) e) in
-    (w.0, w.1, and_right (within (range low high) b) _ e)
-
-never : {A : Type 0} → false ≡ true → A
-never e = absurd (let z : ◌≡◌ {A = ℕ} 0 1 = cc in omega arith)
-
 two_utf8 : (b c : ℕ) → 0xc2 ≤ b → b ≤ 0xdf → 0x80 ≤ c → c ≤ 0xbf → IsUtf8 (b ∷ c ∷ [])
 two_utf8 b c l h m k =
     let x = (b - 0xc0) * 64 + (c - 0x80) in
@@ -136,11 +126,11 @@ module _ (b : ℕ) (bs : List ℕ) (some : sequence (b ∷ bs) ≡ 0 → ⊥) wh
   front_three lo hi low high e h k m n i j fits = front_line (range low high ∷ tail ∷ []) (by_line lo hi b h k bs (range low high ∷ tail ∷ []) e) (by bs)
     where
       by : (bs : List ℕ) → begins (range low high ∷ tail ∷ []) bs ≡ true → Front (b ∷ bs) 3
-      by [] t = never t
-      by (c ∷ []) t = never (begun low high (tail ∷ []) c [] t).2
+      by [] t = absurd (false≢true t)
+      by (c ∷ []) t = absurd (false≢true (begins_true low high (tail ∷ []) c [] t).2)
       by (c ∷ d ∷ rest) t =
-          let u = begun low high (tail ∷ []) c (d ∷ rest) t in
-          let v = begun 0x80 0xbf [] d rest u.2 in
+          let u = begins_true low high (tail ∷ []) c (d ∷ rest) t in
+          let v = begins_true 0x80 0xbf [] d rest u.2 in
           let f = fits c u.0 u.1 in
           (three_utf8 b c d (omega arith) (omega arith) (omega arith) (omega arith) v.0 v.1 f.0 f.1, omega arith)
 
@@ -149,13 +139,13 @@ module _ (b : ℕ) (bs : List ℕ) (some : sequence (b ∷ bs) ≡ 0 → ⊥) wh
   front_four lo hi low high e h k m i j fits = front_line (range low high ∷ tail ∷ tail ∷ []) (by_line lo hi b h k bs (range low high ∷ tail ∷ tail ∷ []) e) (by bs)
     where
       by : (bs : List ℕ) → begins (range low high ∷ tail ∷ tail ∷ []) bs ≡ true → Front (b ∷ bs) 4
-      by [] t = never t
-      by (c ∷ []) t = never (begun low high (tail ∷ tail ∷ []) c [] t).2
-      by (c ∷ d ∷ []) t = never (begun 0x80 0xbf (tail ∷ []) d [] (begun low high (tail ∷ tail ∷ []) c (d ∷ []) t).2).2
+      by [] t = absurd (false≢true t)
+      by (c ∷ []) t = absurd (false≢true (begins_true low high (tail ∷ tail ∷ []) c [] t).2)
+      by (c ∷ d ∷ []) t = absurd (false≢true (begins_true 0x80 0xbf (tail ∷ []) d [] (begins_true low high (tail ∷ tail ∷ []) c (d ∷ []) t).2).2)
       by (c ∷ d ∷ a ∷ rest) t =
-          let u = begun low high (tail ∷ tail ∷ []) c (d ∷ a ∷ rest) t in
-          let v = begun 0x80 0xbf (tail ∷ []) d (a ∷ rest) u.2 in
-          let w = begun 0x80 0xbf [] a rest v.2 in
+          let u = begins_true low high (tail ∷ tail ∷ []) c (d ∷ a ∷ rest) t in
+          let v = begins_true 0x80 0xbf (tail ∷ []) d (a ∷ rest) u.2 in
+          let w = begins_true 0x80 0xbf [] a rest v.2 in
           let f = fits c u.0 u.1 in
           (four_utf8 b c d a (omega arith) (omega arith) (omega arith) v.0 v.1 w.0 w.1 f.0 f.1, omega arith)
 
@@ -163,8 +153,8 @@ module _ (b : ℕ) (bs : List ℕ) (some : sequence (b ∷ bs) ≡ 0 → ⊥) wh
   front_two h k = front_line (tail ∷ []) (by_line 0xc2 0xdf b h k bs (tail ∷ []) refl) (by bs)
     where
       by : (bs : List ℕ) → begins (tail ∷ []) bs ≡ true → Front (b ∷ bs) 2
-      by [] t = never t
-      by (c ∷ rest) t = let u = begun 0x80 0xbf [] c rest t in (two_utf8 b c h k u.0 u.1, omega arith)
+      by [] t = absurd (false≢true t)
+      by (c ∷ rest) t = let u = begins_true 0x80 0xbf [] c rest t in (two_utf8 b c h k u.0 u.1, omega arith)
 
   front_byte : Front (b ∷ bs) (sequence (b ∷ bs))
   front_byte = by (dec_lt b 0x80) (dec_lt b 0xc2) (dec_lt b 0xe0) (dec_lt b 0xe1) (dec_lt b 0xed) (dec_lt b 0xee) (dec_lt b 0xf0) (dec_lt b 0xf1) (dec_lt b 0xf4) (dec_lt b 0xf5)

@@ -5,12 +5,14 @@ use mathlib.Core.Path.{◌≡◌, refl}
 use mathlib.Core.Bool.{Bool, true, false}
 use mathlib.Core.List.{List, [], ◌∷◌}
 use mathlib.Core.Option.{none, some}
-use lib.Dec.{eqb, leb}
+use lib.Dec.{eqb}
 use lib.ListN.{length}
-use borrow.Author.Tests.{leb-true, eqb-false, lt-ltb, le-ltb}
-use Rattle.subject_rules.specs.Choice.{pick, and}
-use Rattle.subject_rules.specs.Utf8.{Range, range, within, tail, well_formed, begins, length_in, sequence, scan, first_bad}
+use Rattle.std.proofs.lemmas.Bool.{false≢true}
+use borrow.Author.Tests.{eqb-false, lt-ltb, le-ltb}
+use Rattle.subject_rules.specs.Choice.{pick}
+use Rattle.subject_rules.specs.Utf8.{Range, range, tail, well_formed, begins, length_in, sequence, scan, first_bad}
 use Rattle.subject_rules.specs.Original.{following, first_bits, code_point}
+use Rattle.subject_rules.proofs.Lines.{begins_true}
 
 -- the first n bytes are there, and none is below 80
 abbrev pub Tails : ℕ → List ℕ → Type 0
@@ -39,25 +41,6 @@ decodes_tails (suc n) (b ∷ bs) d = (d.0, decodes_tails n bs d.1)
 abbrev Sequence : ℕ → List ℕ → ℕ → Type 0
 Sequence b bs n = (n ≡ suc (following b)) × Tails (following b) bs × First b bs
 
-and_both : (a b : Bool) → and a b ≡ true → (a ≡ true) × (b ≡ true)
-and_both true b e = (refl, e)
-and_both false b e = (cc, cc)
-
-within_true : (low high b : ℕ) → within (range low high) b ≡ true → (low ≤ b) × (b ≤ high)
-within_true low high b e =
-    let r = and_both (leb low b) (leb b high) e in
-    (leb-true low b r.0, leb-true b high r.1)
-
-begins_true : (low high : ℕ) (rs : List Range) (b : ℕ) (bs : List ℕ) → begins (range low high ∷ rs) (b ∷ bs) ≡ true
-    → (low ≤ b) × (b ≤ high) × (begins rs bs ≡ true)
-begins_true low high rs b bs e =
-    let r = and_both (within (range low high) b) (begins rs bs) e in
-    let w = within_true low high b r.0 in
-    (w.0, w.1, r.1)
-
-never : {A : Type 0} → false ≡ true → A
-never e = let z : ◌≡◌ {A = ℕ} 0 1 = cc in absurd (omega arith)
-
 -- the first octet of a sequence of two, three and four
 module _ (b : ℕ) where
   two_following : 0x80 ≤ b → b < 0xe0 → (following b ≡ 1) × (first_bits b ≡ b % 0x20)
@@ -76,7 +59,7 @@ one_octet b bs e =
     rw (lt-ltb b 0x80 l) (refl, tt, ascii l)
 
 two_octets : (b : ℕ) (bs : List ℕ) → begins (range 0xc2 0xdf ∷ tail ∷ []) (b ∷ bs) ≡ true → Sequence b bs 2
-two_octets b [] e = never (begins_true 0xc2 0xdf (tail ∷ []) b [] e).2
+two_octets b [] e = absurd (false≢true (begins_true 0xc2 0xdf (tail ∷ []) b [] e).2)
 two_octets b (c ∷ bs) e =
     let w = begins_true 0xc2 0xdf (tail ∷ []) b (c ∷ bs) e in
     let v = begins_true 0x80 0xbf [] c bs w.2 in
@@ -89,9 +72,9 @@ module _ (first last low high : ℕ) (from : 0x80 ≤ low) where
   three_octets : 0xe0 ≤ first → last < 0xf0
       → ((b c : ℕ) → first ≤ b → b ≤ last → low ≤ c → c ≤ high → 0x10 ≤ b % 0x10 * 0x40 + c % 0x40)
       → (b : ℕ) (bs : List ℕ) → begins (range first last ∷ range low high ∷ tail ∷ []) (b ∷ bs) ≡ true → Sequence b bs 3
-  three_octets l h least b [] e = never (begins_true first last (range low high ∷ tail ∷ []) b [] e).2
+  three_octets l h least b [] e = absurd (false≢true (begins_true first last (range low high ∷ tail ∷ []) b [] e).2)
   three_octets l h least b (c ∷ []) e =
-      never (begins_true low high (tail ∷ []) c [] (begins_true first last (range low high ∷ tail ∷ []) b (c ∷ []) e).2).2
+      absurd (false≢true (begins_true low high (tail ∷ []) c [] (begins_true first last (range low high ∷ tail ∷ []) b (c ∷ []) e).2).2)
   three_octets l h least b (c ∷ d ∷ bs) e =
       let w = begins_true first last (range low high ∷ tail ∷ []) b (c ∷ d ∷ bs) e in
       let v = begins_true low high (tail ∷ []) c (d ∷ bs) w.2 in
@@ -104,13 +87,13 @@ module _ (first last low high : ℕ) (from : 0x80 ≤ low) where
   four_octets : 0xf0 ≤ first
       → ((b c : ℕ) → first ≤ b → b ≤ last → low ≤ c → c ≤ high → 0x10 ≤ b % 0x08 * 0x40 + c % 0x40)
       → (b : ℕ) (bs : List ℕ) → begins (range first last ∷ range low high ∷ tail ∷ tail ∷ []) (b ∷ bs) ≡ true → Sequence b bs 4
-  four_octets l least b [] e = never (begins_true first last (range low high ∷ tail ∷ tail ∷ []) b [] e).2
+  four_octets l least b [] e = absurd (false≢true (begins_true first last (range low high ∷ tail ∷ tail ∷ []) b [] e).2)
   four_octets l least b (c ∷ []) e =
-      never (begins_true low high (tail ∷ tail ∷ []) c [] (begins_true first last (range low high ∷ tail ∷ tail ∷ []) b (c ∷ []) e).2).2
+      absurd (false≢true (begins_true low high (tail ∷ tail ∷ []) c [] (begins_true first last (range low high ∷ tail ∷ tail ∷ []) b (c ∷ []) e).2).2)
   four_octets l least b (c ∷ d ∷ []) e =
       let w = begins_true first last (range low high ∷ tail ∷ tail ∷ []) b (c ∷ d ∷ []) e in
       let v = begins_true low high (tail ∷ tail ∷ []) c (d ∷ []) w.2 in
-      never (begins_true 0x80 0xbf (tail ∷ []) d [] v.2).2
+      absurd (false≢true (begins_true 0x80 0xbf (tail ∷ []) d [] v.2).2)
   four_octets l least b (c ∷ d ∷ a ∷ bs) e =
       let w = begins_true first last (range low high ∷ tail ∷ tail ∷ []) b (c ∷ d ∷ a ∷ bs) e in
       let v = begins_true low high (tail ∷ tail ∷ []) c (d ∷ a ∷ bs) w.2 in
@@ -176,7 +159,7 @@ scan_decodes zero at (b ∷ bs) t e = go (eqb (sequence (b ∷ bs)) 0) refl e (�
   where
     go : (w : Bool) → eqb (sequence (b ∷ bs)) 0 ≡ w → pick w (some at) (scan (sequence (b ∷ bs) - 1) (at + 1) bs) ≡ none
         → ((n : ℕ) → Tails n bs → scan n (at + 1) bs ≡ none → Decodes n bs) → First b bs × Decodes (following b) bs
-    go true q e ih = let z : ◌≡◌ {A = ℕ} 0 1 = cc in absurd (omega arith)
+    go true q e ih = absurd (cc)
     go false q e ih =
         let s = sequence_octets b bs (eqb-false (sequence (b ∷ bs)) 0 q) in
         let k : sequence (b ∷ bs) - 1 ≡ following b = omega arith in

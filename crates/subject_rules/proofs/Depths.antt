@@ -31,6 +31,11 @@ refuses_first : (x y : Option Answer) → Refuses x → Refuses y → Refuses (f
 refuses_first none y p q = q
 refuses_first (some a) y p q = p
 
+-- neither of the two is refused
+pub first_none : (x y : Option Answer) → first_of x y ≡ none → (x ≡ none) × (y ≡ none)
+first_none none y e = (refl, e)
+first_none (some a) y e = absurd (cc)
+
 bad_char_lem : (index b : ℕ) → Refuses (bad_char index b)
 bad_char_lem index b =
     refuses_pick (or (ltb b 0x20) (eqb b 0x7f)) (some (answer 8 (b ∷ index ∷ []))) _ (omega arith)

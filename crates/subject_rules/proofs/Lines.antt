@@ -9,7 +9,7 @@ use lib.ListN.{length, get_or}
 use borrow.Author.Tests.{le-leb, lt-leb, leb-true, leb-false}
 use Rattle.subject_rules.specs.Choice.{pick, and, or}
 use Rattle.subject_rules.specs.Utf8.{Range, range, within, begins, length_in}
-use Rattle.subject_rules.proofs.Booleans.{and_false, and_left, and_right}
+use Rattle.subject_rules.proofs.Booleans.{and_false, and_left, and_right, and_both}
 
 module _ (b low high : ℕ) where
   pub below : b < low → within (range low high) b ≡ false
@@ -21,10 +21,23 @@ module _ (b low high : ℕ) where
   pub above : high < b → within (range low high) b ≡ false
   above h = rw (lt-leb b high h) (and_false (leb low b))
 
+  pub within_true : within (range low high) b ≡ true → (low ≤ b) × (b ≤ high)
+  within_true e =
+      let r = and_both (leb low b) (leb b high) e in
+      (leb-true low b r.0, leb-true b high r.1)
+
+-- bytes that begin with a line of a range and more
+pub begins_true : (low high : ℕ) (rs : List Range) (b : ℕ) (bs : List ℕ) → begins (range low high ∷ rs) (b ∷ bs) ≡ true
+    → (low ≤ b) × (b ≤ high) × (begins rs bs ≡ true)
+begins_true low high rs b bs e =
+    let r = and_both (within (range low high) b) (begins rs bs) e in
+    let w = within_true b low high r.0 in
+    (w.0, w.1, r.1)
+
 -- a line is no longer than bytes that begin with it
 pub begins-length : (row : List Range) (bs : List ℕ) → begins row bs ≡ true → length row ≤ length bs
 begins-length [] bs e = omega arith
-begins-length (r ∷ rs) [] e = let z : ◌≡◌ {A = ℕ} 0 1 = cc in absurd (omega arith)
+begins-length (r ∷ rs) [] e = absurd (cc)
 begins-length (r ∷ rs) (b ∷ bs) e = let h = begins-length rs bs (and_right (within r b) _ e) in omega arith
 
 pub length_in_le : (rows : List (List Range)) (bs : List ℕ) → length_in rows bs ≤ length bs
@@ -49,7 +62,7 @@ module _ (lo hi : ℕ) where
 -- for bytes that start with one from lo to hi, the other lines do not count
 module _ (b lo hi : ℕ) (h : lo ≤ b) (k : b ≤ hi) where
   apart : (row : List Range) (bs : List ℕ) → meets lo hi row ≡ false → begins row (b ∷ bs) ≡ false
-  apart [] bs e = let z : ◌≡◌ {A = ℕ} 0 1 = cc in absurd (omega arith)
+  apart [] bs e = absurd (cc)
   apart (range low high ∷ rs) bs e = go (leb low hi) refl
     where
       go : (t : Bool) → leb low hi ≡ t → begins (range low high ∷ rs) (b ∷ bs) ≡ false
@@ -77,7 +90,7 @@ long_high (row ∷ rows) = and (or (leb (length row) 1) (high row)) (long_high r
 
 begins_high : (row : List Range) (bs : List ℕ) → high row ≡ true → begins row bs ≡ true → (i : ℕ) → i < length row → 0x80 ≤ get_or bs i 0
 begins_high [] bs e f i h = absurd (omega arith)
-begins_high (r ∷ rs) [] e f i h = let z : ◌≡◌ {A = ℕ} 0 1 = cc in absurd (omega arith)
+begins_high (r ∷ rs) [] e f i h = absurd (cc)
 begins_high (range low upto ∷ rs) (b ∷ bs) e f zero h =
     let w = and_left (leb low b) _ (and_left (within (range low upto) b) _ f) in
     omega (arith, leb-true 0x80 low (and_left _ (high rs) e), leb-true low b w)

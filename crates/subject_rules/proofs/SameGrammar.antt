@@ -14,6 +14,7 @@ use Rattle.subject_rules.specs.Utf8.{first_bad}
 use Rattle.subject_rules.specs.Answers.{Answer, answer, unless}
 use Rattle.subject_rules.specs.Grammar.{bad_char, first_of, bad_chars, bad_token, tail_at, check, too_long, grammar}
 use Rattle.subject_rules.specs.Original.{when◌then◌else◌, following, first_bits, code_point, chars_from, chars, SEP, WILDCARD_ONE, WILDCARD_TAIL, join, split, Error, IllegalChar, ControlChar, TooDeep, Result, Ok, Err, ◌>>=◌, is_control, TokenKind, SingleWildcard, TailWildcard, seen, wildcard_or_reject, each_char, classify_token, each_token, validate, answer_of}
+use Rattle.subject_rules.proofs.Booleans.{or_same}
 use Rattle.subject_rules.proofs.Decoding.{First, ascii, long, Decodes, utf8_decodes}
 use Rattle.subject_rules.proofs.Pieces.{NoDot, Pieces, split_pieces}
 
@@ -23,11 +24,7 @@ refused (Ok kind) = none
 refused (Err e) = some (answer_of (Err e))
 
 never : {e : Error} {n : ℕ} {A : Type 0} → Err e ≡ Ok n → A
-never q = let z : ◌≡◌ {A = ℕ} 0 1 = cc in absurd (omega arith)
-
-or_same : (a b : Bool) → (a || b) ≡ or a b
-or_same true b = refl
-or_same false b = refl
+never q = absurd (cc)
 
 -- no rule names a character or a byte of 80 or more
 char_above : (index ch : ℕ) (rest : List ℕ) → 0x80 ≤ ch → each_char index (ch ∷ rest) ≡ each_char index rest

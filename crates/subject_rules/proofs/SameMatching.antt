@@ -27,12 +27,12 @@ equal-same [] (y ∷ ys) = refl
 equal-same (x ∷ xs) [] = refl
 equal-same (x ∷ xs) (y ∷ ys) = if_and (eqb x y) (equal xs ys) (same xs ys) (equal-same xs ys)
 
-equal-star : (t : List ℕ) → equal t (WILDCARD_ONE ∷ []) ≡ is_star t
+pub equal-star : (t : List ℕ) → equal t (WILDCARD_ONE ∷ []) ≡ is_star t
 equal-star [] = refl
 equal-star (b ∷ []) = if_and (eqb b 0x2a) true true refl ∙ and_true (eqb b 0x2a)
 equal-star (b ∷ c ∷ bs) = if_and (eqb b 0x2a) false false refl ∙ and_false (eqb b 0x2a)
 
-equal-tail : (t : List ℕ) → equal t (WILDCARD_TAIL ∷ []) ≡ is_tail t
+pub equal-tail : (t : List ℕ) → equal t (WILDCARD_TAIL ∷ []) ≡ is_tail t
 equal-tail [] = refl
 equal-tail (b ∷ []) = if_and (eqb b 0x3e) true true refl ∙ and_true (eqb b 0x3e)
 equal-tail (b ∷ c ∷ bs) = if_and (eqb b 0x3e) false false refl ∙ and_false (eqb b 0x3e)

@@ -1,10 +1,10 @@
--- Runs of stores into a list.
-use Prim.Native.Nat.{ℕ, suc, ◌+◌, ◌≤◌}
+-- Runs of stores into a list, and reads of zeros.
+use Prim.Native.Nat.{ℕ, zero, suc, ◌+◌, ◌≤◌}
 use native.Mathlib.Nat.{zero-add, add-suc, suc-add, add-zero}
 use native.Mathlib.Omega.{arith}
 use mathlib.Core.Path.{◌≡◌, refl}
 use mathlib.Core.List.{List, [], ◌∷◌, ◌++◌}
-use lib.ListN.{length, set}
+use lib.ListN.{length, get_or, set, replicate}
 use lib.Seq.{set_out, sets, sets-eq}
 use Rattle.subject_rules.specs.Outputs.{over}
 
@@ -21,3 +21,9 @@ sets-append l at (u ∷ us) vs = rw (add-suc at (length us), ← suc-add at (len
 -- a run from the first place on, within the list
 pub sets_over : (vs l : List ℕ) → length vs ≤ length l → sets l 0 vs ≡ over vs l
 sets_over vs l h = rw zero-add at (sets-eq vs l 0 (omega arith))
+
+-- zeros, and what lies behind them
+pub zeros : (n k : ℕ) → get_or {A = ℕ} (replicate n 0) k 0 ≡ 0
+zeros zero k = refl
+zeros (suc n) zero = refl
+zeros (suc n) (suc k) = zeros n k

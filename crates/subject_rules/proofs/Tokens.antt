@@ -1,5 +1,5 @@
 -- The tokens of a text: there is a first, and whether the last is `>`.
-use Prim.Native.Nat.{ℕ, zero, suc, ◌-◌, ◌≤◌}
+use Prim.Native.Nat.{ℕ, zero, suc, ◌+◌, ◌-◌, ◌≤◌}
 use mathlib.Core.Path.{◌≡◌, refl, sym, ap, ◌∙◌}
 use mathlib.Core.Bool.{Bool, true, false}
 use mathlib.Core.List.{List, [], ◌∷◌}
@@ -18,6 +18,16 @@ tokens_cons P k (b ∷ bs) = go (eqb b 0x2e) (tokens bs) where
   go true ts = k [] ts
   go false [] = k (b ∷ []) []
   go false (t ∷ ts) = k (b ∷ t) ts
+
+-- there are no more tokens than bytes, and one
+pub tokens_most : (bs : List ℕ) → length (tokens bs) ≤ length bs + 1
+tokens_most [] = omega arith
+tokens_most (b ∷ bs) = go (eqb b 0x2e) (tokens bs) (tokens_most bs)
+  where
+    go : (dot : Bool) (ts : List (List ℕ)) → length ts ≤ length bs + 1 → length (cut_at dot b ts) ≤ suc (length bs) + 1
+    go true ts h = omega arith
+    go false [] h = omega arith
+    go false (t ∷ ts) h = omega arith
 
 -- of three bytes or more, the first does not tell whether the last token is `>`
 ends_cut : (x y z : Bool) (b c d : ℕ) (t : List ℕ) (ts : List (List ℕ))

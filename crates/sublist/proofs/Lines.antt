@@ -1,12 +1,10 @@
 -- What putting a pattern in makes of `line_in`, and each turn over the entries of `lines_in`.
-use Rattle.std.proofs.Common.{◌≡◌, ℕ, ◌+◌, ◌<◌, Bool, true, false, List, [], ◌∷◌, ◌++◌, map, length, get_or, take, drop, set, Result, Ok, Err, sym, refl, ap, ◌∙◌, add-one, arith, get_or-set_other, get_or-set_same}
-use lib.Seq.{take-suc-set, drop-length}
-use native.Mathlib.Decide.{ℕ_discrete}
+use Rattle.std.proofs.Common.{◌≡◌, ℕ, ◌+◌, ◌<◌, ◌≤◌, Bool, true, false, List, [], ◌∷◌, ◌++◌, length, drop, Result, Ok, Err, sym, refl, ap, ◌∙◌, arith}
+use Rattle.std.proofs.lemmas.List.{drop_all}
 use Rattle.subject_rules.specs.Choice.{pick}
 use Rattle.subject_rules.specs.Text.{tokens, is_tail}
 use Rattle.subject_rules.specs.Fnv.{fnv}
 use Rattle.sublist_tree.specs.Tree.{Key, Line, line, onto, line_of}
-use Rattle.sublist_tree.proofs.Sorting.{map-append}
 use Rattle.sublist_area_rules.specs.declared.Placed.{Placed}
 use Rattle.sublist_area_rules.specs.declared.PlaceError.{PlaceError}
 use Rattle.sublist_area_rules.specs.Words.{token_key}
@@ -15,9 +13,9 @@ use Rattle.sublist_entries.specs.declared.Entry.{Entry}
 use Rattle.sublist_entries.specs.Entries.{text_of, target_word, entry_at, lines_of}
 use Rattle.sublist_rules.specs.Passes.{End, end, Growth, growth, stopped, counted, joined, line_in, lines_in}
 use Rattle.sublist_rules.specs.Core.{reached, run_in}
-use Rattle.sublist.specs.declared.LineEnd.{LineEnd}
+use Rattle.sublist_rules.proofs.Entering.{stays}
 use Rattle.sublist.specs.declared.Ended.{Ended}
-use Rattle.sublist.specs.Told.{end_of, ends_of, ended_as, EndBelow}
+use Rattle.sublist.specs.Told.{end_of, ended_as}
 use Rattle.sublist.proofs.Checks.{left_on}
 
 -- the end of a run counts it
@@ -25,22 +23,22 @@ counted-end : (p : Result Placed PlaceError) (b : List ℕ) (tail : Bool) (m : �
     → growth m (counted c j t) (end j t ∷ []) ≡ joined (p, b) tail []
 unfolding joined
 counted-end (Ok q) b tail m c j t e = cc
-counted-end (Err f) b tail m c j t e = let z : ◌≡◌ {A = ℕ} 0 1 = cc in absurd (omega arith)
+counted-end (Err f) b tail m c j t e = absurd (cc)
 
 stopped-end : (p : Result Placed PlaceError) (b : List ℕ) (tail : Bool) (c : List ℕ) → stopped c ≡ reached p b tail → stopped c ≡ joined (p, b) tail []
 unfolding joined
-stopped-end (Ok q) b tail c e = let z : ◌≡◌ {A = ℕ} 0 1 = cc in absurd (omega arith)
+stopped-end (Ok q) b tail c e = absurd (cc)
 stopped-end (Err f) b tail c e = e
 
 module _ (n : ℕ) (a : List ℕ) where
-  pub line-ends : (l : Line ℕ) (m : ℕ) (c : List ℕ) (j : ℕ) (t : Bool) → growth m c (end j t ∷ []) ≡ run_in (placed_at 0 n, a) l
+  pub line_ends : (l : Line ℕ) (m : ℕ) (c : List ℕ) (j : ℕ) (t : Bool) → growth m c (end j t ∷ []) ≡ run_in (placed_at 0 n, a) l
       → growth m (counted c j t) (end j t ∷ []) ≡ line_in (growth n a []) l
   unfolding run_in line_in
-  line-ends (line ks tail x) m c j t e = counted-end (grown (placed_at 0 n, a) ks).0 (grown (placed_at 0 n, a) ks).1 tail m c j t e
+  line_ends (line ks tail x) m c j t e = counted-end (grown (placed_at 0 n, a) ks).0 (grown (placed_at 0 n, a) ks).1 tail m c j t e
 
-  pub line-stops : (l : Line ℕ) (c : List ℕ) → stopped c ≡ run_in (placed_at 0 n, a) l → stopped c ≡ line_in (growth n a []) l
+  pub line_stops : (l : Line ℕ) (c : List ℕ) → stopped c ≡ run_in (placed_at 0 n, a) l → stopped c ≡ line_in (growth n a []) l
   unfolding run_in line_in
-  line-stops (line ks tail x) c e = stopped-end (grown (placed_at 0 n, a) ks).0 (grown (placed_at 0 n, a) ks).1 tail c e
+  line_stops (line ks tail x) c e = stopped-end (grown (placed_at 0 n, a) ks).0 (grown (placed_at 0 n, a) ks).1 tail c e
 
 -- the same line with another target
 abbrev retarget : Line ℕ → ℕ → Line ℕ
@@ -71,11 +69,11 @@ joined_more : (p : Result Placed PlaceError) (b : List ℕ) (tail : Bool) (ends 
     → joined (p, b) tail ends ≡ growth m c (ends ++ es)
 unfolding joined
 joined_more (Ok q) b tail ends m c es e = cc
-joined_more (Err f) b tail ends m c es e = let z : ◌≡◌ {A = ℕ} 0 1 = cc in absurd (omega arith)
+joined_more (Err f) b tail ends m c es e = absurd (cc)
 
 joined_stop : (p : Result Placed PlaceError) (b : List ℕ) (tail : Bool) (ends : List End) (c : List ℕ) → stopped c ≡ joined (p, b) tail [] → joined (p, b) tail ends ≡ stopped c
 unfolding joined
-joined_stop (Ok q) b tail ends c e = let z : ◌≡◌ {A = ℕ} 0 1 = cc in absurd (omega arith)
+joined_stop (Ok q) b tail ends c e = absurd (cc)
 joined_stop (Err f) b tail ends c e = sym e
 
 module _ (n : ℕ) (a : List ℕ) (ends : List End) where
@@ -87,51 +85,32 @@ module _ (n : ℕ) (a : List ℕ) (ends : List End) where
   unfolding line_in
   stop (line ks tail x) c e = joined_stop (grown (placed_at 0 n, a) ks).0 (grown (placed_at 0 n, a) ks).1 tail ends c e
 
-stopped_stays : (a : List ℕ) (ls : List (Line ℕ)) → lines_in (stopped a) ls ≡ stopped a
-unfolding lines_in line_in
-stopped_stays a [] = refl
-stopped_stays a (l ∷ ls) = stopped_stays a ls
-
--- one end more
-pub ends_more : (i : ℕ) (es : List LineEnd) (v : LineEnd) → i < length es → ends_of (i + 1) (set es i v) ≡ ends_of i es ++ (end_of v ∷ [])
-ends_more i es v h = ap (map end_of) (rw (add-one i) (take-suc-set es i v h)) ∙ map-append end_of (take i es) (v ∷ [])
-
-pub below_more : (i : ℕ) (es : List LineEnd) (v : LineEnd) (n : ℕ) → EndBelow i es n → i < length es → v.node < n → EndBelow (i + 1) (set es i v) n
-below_more i es v n b h l k p = go (ℕ_discrete k i)
-  where
-    go : Dec (k ≡ i) → (get_or (set es i v) k (record { node = 0; tail = false })).node < n
-    go (yes q) = rw (q, get_or-set_same es i v (record { node = 0; tail = false }) h) l
-    go (no q) = rw (get_or-set_other es i k v (record { node = 0; tail = false }) q) (b k (omega arith))
-
--- x is what a line and the lines behind it make; r and c are what putting its run in gives
-module _ (x : Growth) (m : ℕ) (a : List ℕ) (ends : List End) (ts : List (List ℕ)) (y : ℕ) (ls : List (Line ℕ)) (r : Result Ended PlaceError) (c : List ℕ)
-    (e : lines_in (growth m a ends) (line_of fnv ts y ∷ ls) ≡ x) (q : ended_as r c ≡ line_in (growth m a []) (line_of fnv ts 0)) where
-  turn : lines_in (line_in (growth m a ends) (line_of fnv ts 0)) ls ≡ x
+-- a line whose run was put in, and the lines behind it; r and c are what that gave
+module _ (m : ℕ) (a : List ℕ) (ends : List End) (ts : List (List ℕ)) (y : ℕ) (ls : List (Line ℕ)) (r : Result Ended PlaceError) (c : List ℕ)
+    (q : ended_as r c ≡ line_in (growth m a []) (line_of fnv ts 0)) where
+  turn : lines_in (growth m a ends) (line_of fnv ts y ∷ ls) ≡ lines_in (line_in (growth m a ends) (line_of fnv ts 0)) ls
   unfolding lines_in
-  turn = rw (← in_target (growth m a ends) (line_of fnv ts 0) y, ← line-target ts 0 y) e
+  turn = rw (line-target ts 0 y, in_target (growth m a ends) (line_of fnv ts 0) y) refl
 
-  turn_on : (d : Ended) → r ≡ Ok d → lines_in (growth d.count c (ends ++ (end_of d.end ∷ []))) ls ≡ x
-  turn_on d p = rw (more m a ends (line_of fnv ts 0) d.count c (end_of d.end ∷ []) (rw p at q)) at turn
+  turn_on : (d : Ended) → r ≡ Ok d → lines_in (growth m a ends) (line_of fnv ts y ∷ ls) ≡ lines_in (growth d.count c (ends ++ (end_of d.end ∷ []))) ls
+  turn_on d p = turn ∙ ap (λ g. lines_in g ls) (more m a ends (line_of fnv ts 0) d.count c (end_of d.end ∷ []) (rw p at q))
 
-  turn_stop : (f : PlaceError) → r ≡ Err f → stopped c ≡ x
-  turn_stop f p = sym (stopped_stays c ls) ∙ (rw (stop m a ends (line_of fnv ts 0) c (rw p at q)) at turn)
+  turn_stop : (f : PlaceError) → r ≡ Err f → lines_in (growth m a ends) (line_of fnv ts y ∷ ls) ≡ stopped c
+  turn_stop f p = turn ∙ ap (λ g. lines_in g ls) (stop m a ends (line_of fnv ts 0) c (rw p at q)) ∙ stays c ls
 
--- x is what all the entries make, and those from entry i on make it of a, with m nodes and the ends so far
-module _ (x : Growth) (store : List ℕ) (xs : List Entry) (i : ℕ) (a : List ℕ) (es : List LineEnd) (m : ℕ)
-    (e : lines_in (growth m a (ends_of i es)) (lines_of store (drop i xs)) ≡ x) (h : i < length xs) (text : List ℕ) (t : text ≡ text_of store (entry_at xs i))
+-- the entries from entry i on, where its run was put in
+module _ (m : ℕ) (a : List ℕ) (ends : List End) (store : List ℕ) (xs : List Entry) (i : ℕ) (h : i < length xs) (text : List ℕ) (t : text ≡ text_of store (entry_at xs i))
     (r : Result Ended PlaceError) (c : List ℕ) (q : ended_as r c ≡ line_in (growth m a []) (line_of fnv (tokens text) 0)) where
-  here : lines_in (growth m a (ends_of i es)) (line_of fnv (tokens text) (target_word (entry_at xs i)) ∷ lines_of store (drop (i + 1) xs)) ≡ x
-  here = rw t (rw (left_on xs i h) at e)
+  here : lines_of store (drop i xs) ≡ line_of fnv (tokens text) (target_word (entry_at xs i)) ∷ lines_of store (drop (i + 1) xs)
+  here = rw (left_on xs i h, t) refl
 
-  pub lines_stop : (f : PlaceError) → r ≡ Err f → stopped c ≡ x
-  lines_stop = turn_stop x m a (ends_of i es) (tokens text) (target_word (entry_at xs i)) (lines_of store (drop (i + 1) xs)) r c here q
+  pub lines_stop : (f : PlaceError) → r ≡ Err f → lines_in (growth m a ends) (lines_of store (drop i xs)) ≡ stopped c
+  lines_stop f p = rw here (turn_stop m a ends (tokens text) (target_word (entry_at xs i)) (lines_of store (drop (i + 1) xs)) r c q f p)
 
-  pub lines_on : (d : Ended) → r ≡ Ok d → i < length es → lines_in (growth d.count c (ends_of (i + 1) (set es i d.end))) (lines_of store (drop (i + 1) xs)) ≡ x
-  lines_on d p g =
-      rw (ends_more i es d.end g)
-      (turn_on x m a (ends_of i es) (tokens text) (target_word (entry_at xs i)) (lines_of store (drop (i + 1) xs)) r c here q d p)
+  pub lines_on : (d : Ended) → r ≡ Ok d
+      → lines_in (growth m a ends) (lines_of store (drop i xs)) ≡ lines_in (growth d.count c (ends ++ (end_of d.end ∷ []))) (lines_of store (drop (i + 1) xs))
+  lines_on d p = rw here (turn_on m a ends (tokens text) (target_word (entry_at xs i)) (lines_of store (drop (i + 1) xs)) r c q d p)
 
-pub lines_end : (x : Growth) (store : List ℕ) (xs : List Entry) (i : ℕ) (a : List ℕ) (es : List LineEnd) (m : ℕ)
-    → lines_in (growth m a (ends_of i es)) (lines_of store (drop i xs)) ≡ x → i ≡ length xs → growth m a (ends_of (length xs) es) ≡ x
+pub lines_end : (g : Growth) (store : List ℕ) (xs : List Entry) (i : ℕ) → length xs ≤ i → lines_in g (lines_of store (drop i xs)) ≡ g
 unfolding lines_in
-lines_end x store xs i a es m e h = rw drop-length at (rw h at e)
+lines_end g store xs i h = rw (drop_all i xs h) refl

@@ -6,9 +6,10 @@ use lib.Dec.{leb-suc-suc, leb-suc-zero, leb-zero}
 use lib.ListN.{length-map}
 use Rattle.subject_rules.specs.Choice.{pick, and, or}
 use Rattle.sublist_tree.specs.Lists.{largest, filter, without, distinct, prefixes, All}
-use Rattle.sublist_tree.specs.Tree.{Key, star, lit, Line, line, key_is, run_is, keys_of}
+use Rattle.sublist_tree.specs.Tree.{Key, Line, line, key_is, run_is, keys_of}
 use Rattle.sublist_tree.specs.Nodes.{runs, nodes}
-use Rattle.sublist_tree.proofs.Order.{and_false, filter-filter}
+use Rattle.subject_rules.proofs.Booleans.{and_false}
+use Rattle.sublist_tree.proofs.Order.{filter-filter, key_is-same}
 use Rattle.sublist_tree.proofs.Bytes.{All-map}
 use Rattle.sublist_tree.proofs.Counting.{filter-append, filter_all, filter_map, distinct-map}
 use Rattle.sublist.specs.Sharing.{shared}
@@ -150,20 +151,16 @@ module _ {K : Type 0} (eq : K → K → Bool) where
   runs_more ls (line ks t x) = runs_append ls (line ks t x ∷ []) ∙ ap (λ r. runs ls ++ r) (append-nil (prefixes ks))
 
   module _ (whole : (h : K) → eq h h ≡ true) where
-    key_is-same : (k : Key K) → key_is eq k k ≡ true
-    key_is-same star = refl
-    key_is-same (lit h) = whole h
-
     -- a pattern shares all its keys with itself
     pub shared_self : (ks : List (Key K)) → shared eq ks ks ≡ length ks
     shared_self [] = refl
-    shared_self (k ∷ ks) = rw (key_is-same k) (ap suc (shared_self ks))
+    shared_self (k ∷ ks) = rw (key_is-same eq whole k) (ap suc (shared_self ks))
 
     distinct-prefixes : (ks : List (Key K)) → distinct (run_is eq) (prefixes ks) ≡ prefixes ks
     distinct-prefixes [] = refl
     distinct-prefixes (k ∷ ks) =
         ap (λ r. [] ∷ r)
-        (ap (without (run_is eq) []) (distinct-map (λ p. k ∷ p) (run_is eq) (run_is eq) (λ x y. rw (key_is-same k)) (prefixes ks) ∙ ap (map (λ p. k ∷ p)) (distinct-prefixes ks))
+        (ap (without (run_is eq) []) (distinct-map (λ p. k ∷ p) (run_is eq) (run_is eq) (λ x y. rw (key_is-same eq whole k)) (prefixes ks) ∙ ap (map (λ p. k ∷ p)) (distinct-prefixes ks))
         ∙ filter_map (λ p. k ∷ p) (λ p. not (run_is eq [] p)) (prefixes ks)
         ∙ ap (map (λ p. k ∷ p)) (filter_all (prefixes ks)))
 

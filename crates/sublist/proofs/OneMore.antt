@@ -1,12 +1,12 @@
 -- One more entry: the longest run shared with the entries before it, and the nodes that it adds. Assumes nothing.
 use Rattle.std.proofs.Common.{◌≡◌, ℕ, suc, ◌+◌, ◌-◌, ◌<◌, ◌≤◌, max, Bool, true, false, eqb, List, [], ◌∷◌, ◌++◌, map, length, take, sym, refl, ap, ◌∙◌, ap₂, add-one, arith, take-suc}
+use Rattle.std.proofs.lemmas.List.{map-append}
 use Rattle.subject_rules.specs.Choice.{pick}
 use Rattle.subject_rules.specs.Text.{cut_at, tokens, is_tail}
 use Rattle.subject_rules.specs.Fnv.{fnv}
 use Rattle.sublist_tree.specs.Lists.{largest}
 use Rattle.sublist_tree.specs.Tree.{Line, line, onto, line_of, keys_of}
 use Rattle.sublist_tree.specs.Nodes.{nodes}
-use Rattle.sublist_tree.proofs.Sorting.{map-append}
 use Rattle.sublist_tree.proofs.Bytes.{eqb_whole}
 use Rattle.sublist_entries.specs.declared.Entry.{Entry}
 use Rattle.sublist_entries.specs.Entries.{text_of, target_word, entry_at, lines_of}
@@ -65,16 +65,6 @@ keys-most (t ∷ ts) = go (is_tail t) (line_of fnv ts 0) (keys-most ts)
 pub shared-tokens : (text other : List ℕ) → shared_by text other ≤ length (tokens text)
 unfolding shared_by
 shared-tokens text other = omega (arith, shared-most eqb (keys_in (tokens text)) (keys_in (tokens other)), keys-most (tokens text))
-
--- and it has no more tokens than bytes, and one
-pub tokens-most : (bs : List ℕ) → length (tokens bs) ≤ length bs + 1
-tokens-most [] = omega arith
-tokens-most (b ∷ bs) = go (eqb b 0x2e) (tokens bs) (tokens-most bs)
-  where
-    go : (c : Bool) (ts : List (List ℕ)) → length ts ≤ length bs + 1 → length (cut_at c b ts) ≤ suc (length bs) + 1
-    go true ts h = omega arith
-    go false [] h = omega arith
-    go false (t ∷ ts) h = omega arith
 
 -- no entry needs a node but the root
 pub needed_none : (store : List ℕ) → needed store [] ≡ 1

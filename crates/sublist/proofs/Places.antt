@@ -1,5 +1,5 @@
 -- A node that a lookup gives or that is made is one of those counted, and they fit the area.
-use Rattle.std.proofs.Common.{◌≡◌, ℕ, zero, suc, ◌+◌, ◌*◌, ◌/◌, ◌%◌, ◌<◌, ◌≤◌, eqb, leb, List, length, get_or, Result, Ok, Err, ap, arith, leb-false}
+use Rattle.std.proofs.Common.{◌≡◌, ℕ, zero, suc, ◌+◌, ◌*◌, ◌/◌, ◌%◌, ◌<◌, ◌≤◌, eqb, leb, List, length, get_or, Result, Ok, Err, sym, subst, ap, ◌∙◌, arith, leb-false}
 use Rattle.sublist_tree.specs.Tree.{Key, star, lit}
 use Rattle.sublist_area_rules.specs.declared.Child.{Child}
 use Rattle.sublist_area_rules.specs.declared.Child.TheVariants.{Node, Missing, Damaged}
@@ -16,7 +16,7 @@ NodeBelow n (Missing link) = Unit {0}
 NodeBelow n Damaged = Unit {0}
 
 -- the node is one of those counted, and they fit so many words
-abbrev pub PlaceFits : ℕ → Result Placed PlaceError → Type 0
+abbrev PlaceFits : ℕ → Result Placed PlaceError → Type 0
 PlaceFits words (Ok p) = (p.node < p.count) × (p.count * 16 ≤ words)
 PlaceFits words (Err e) = Unit {0}
 
@@ -47,6 +47,7 @@ module _ (a : List ℕ) (n : ℕ) where
       (λ _. (omega arith, omega (arith, leb-false (length a / 16) n t))))
   placed-fits Damaged i k h b = tt
 
-  pub place-fits : (i : ℕ) (k : Key ℕ) (r : Result Placed PlaceError) (b : List ℕ) → (r, b) ≡ child_or_new a n i k → n * 16 ≤ length a → PlaceFits (length a) r
+  pub place_fits : (i : ℕ) (k : Key ℕ) (r : Result Placed PlaceError) (b : List ℕ) → (r, b) ≡ child_or_new a n i k → n * 16 ≤ length a
+      → (p : Placed) → r ≡ Ok p → (p.node < p.count) × (p.count * 16 ≤ length a)
   unfolding child_or_new
-  place-fits i k r b e h = rw (ap (λ (s : Result Placed PlaceError × List ℕ). s.0) e) (placed-fits (child_of a n i k) i k h (child-below i k))
+  place_fits i k r b e h p q = subst (PlaceFits (length a)) (sym (ap (λ (s : Result Placed PlaceError × List ℕ). s.0) e) ∙ q) (placed-fits (child_of a n i k) i k h (child-below i k))

@@ -1,5 +1,5 @@
 -- What each way through a turn over a pattern's tokens makes of the run of its line.
-use Rattle.std.proofs.Common.{◌≡◌, ℕ, true, false, List, [], ◌∷◌, Result, Ok, Err, sym, refl, ◌∙◌}
+use Rattle.std.proofs.Common.{◌≡◌, ℕ, Bool, true, false, List, [], ◌∷◌, Result, Ok, Err, sym, refl, ◌∙◌}
 use Rattle.subject_rules.specs.Text.{is_tail}
 use Rattle.subject_rules.specs.Fnv.{fnv}
 use Rattle.sublist_tree.specs.Tree.{Key, Line, line, onto, line_of}
@@ -36,15 +36,17 @@ module _ (x : Growth) (a : List ℕ) (p : Placed) (ts : List (List ℕ)) (e : ru
   unfolding run_in grown
   run_end none = rw none at e
 
-  module _ (t : List ℕ) (rest : List (List ℕ)) (next : ts ≡ t ∷ rest) where
-    pub run_tail : is_tail t ≡ true → growth p.count a (end p.node true ∷ []) ≡ x
+  -- one of them is left, which is told to be `>` or not
+  module _ (t : List ℕ) (rest : List (List ℕ)) (next : ts ≡ t ∷ rest) (b : Bool) (told : b ≡ is_tail t) where
+    pub run_tail : b ≡ true → growth p.count a (end p.node true ∷ []) ≡ x
     unfolding run_in grown
-    run_tail q = rw (next, line-tail t rest 0 q) at e
+    run_tail q = rw (next, line-tail t rest 0 (sym told ∙ q)) at e
 
-    module _ (q : is_tail t ≡ false) (r : Result Placed PlaceError) (c : List ℕ) (s : (r, c) ≡ child_or_new a p.count p.node (token_key t)) where
+    -- its key is looked up or made
+    module _ (q : b ≡ false) (k : Key ℕ) (key : k ≡ token_key t) (r : Result Placed PlaceError) (c : List ℕ) (s : (r, c) ≡ child_or_new a p.count p.node k) where
       run_turn : run_in (r, c) (line_of fnv rest 0) ≡ x
       unfolding onward
-      run_turn = rw s (sym (run_onto (Ok p, a) _ _) ∙ (rw (next, line_key t rest 0 q) at e))
+      run_turn = rw (s, key) (sym (run_onto (Ok p, a) _ _) ∙ (rw (next, line_key t rest 0 (sym told ∙ q)) at e))
 
       pub run_on : (m : Placed) → r ≡ Ok m → run_in (Ok m, c) (line_of fnv rest 0) ≡ x
       run_on m h = rw h at run_turn

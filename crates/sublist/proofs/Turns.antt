@@ -1,12 +1,13 @@
 -- What each way through the passes over the nodes makes of their definitions.
-use Rattle.std.proofs.Common.{◌≡◌, ℕ, zero, suc, ◌+◌, ◌-◌, ◌%◌, ◌<◌, ◌≤◌, List, length, get_or, drop, add-one, sub-one, drop-cons, arith}
+use Rattle.std.proofs.Common.{◌≡◌, ℕ, zero, suc, ◌+◌, ◌-◌, ◌%◌, ◌<◌, ◌≤◌, List, map, length, get_or, drop, add-one, sub-one, drop-cons, arith, refl}
+use Rattle.std.proofs.lemmas.List.{drop_all}
 use Rattle.sublist_area_rules.specs.Words.{word}
 use Rattle.sublist_rules.specs.Passes.{told, settled, laid_at, laid, Filling, filled_by, filled}
 use Rattle.sublist_rules.specs.Core.{targets_of}
 use Rattle.sublist_entries.specs.declared.Entry.{Entry}
 use Rattle.sublist_entries.specs.Entries.{target_word, entry_at}
 use Rattle.sublist.specs.declared.LineEnd.{LineEnd}
-use Rattle.sublist.specs.Told.{end_of, ends_of}
+use Rattle.sublist.specs.Told.{end_of}
 use Rattle.sublist.proofs.Checks.{left_on}
 
 -- a turn of the second pass, and its end
@@ -31,15 +32,12 @@ module _ (a : List ℕ) (i n from : ℕ) where
 
 -- a turn of the fourth pass, and its end
 module _ (f : Filling) (es : List LineEnd) (xs : List Entry) (i : ℕ) where
-  pub fill_on : (e : LineEnd) → i < length xs → length xs ≤ length es
-      → filled f (ends_of (length xs - i) (drop i es)) (targets_of (drop i xs))
-      ≡ filled (filled_by f (end_of (get_or es i e)) (target_word (entry_at xs i))) (ends_of (length xs - (i + 1)) (drop (i + 1) es)) (targets_of (drop (i + 1) xs))
+  pub fill_on : (e : LineEnd) → i < length xs → i < length es
+      → filled f (map end_of (drop i es)) (targets_of (drop i xs))
+      ≡ filled (filled_by f (end_of (get_or es i e)) (target_word (entry_at xs i))) (map end_of (drop (i + 1) es)) (targets_of (drop (i + 1) xs))
   unfolding filled
-  fill_on e h k =
-      let s : length xs - i ≡ suc (length xs - (i + 1)) = omega arith in
-      let inside : i < length es = omega arith in
-      rw (left_on xs i h, s, add-one i, drop-cons es i e)
+  fill_on e h k = rw (left_on xs i h, add-one i, drop-cons es i e) refl
 
-  pub fill_end : length xs ≤ i → filled f (ends_of (length xs - i) (drop i es)) (targets_of (drop i xs)) ≡ f
+  pub fill_end : length es ≤ i → filled f (map end_of (drop i es)) (targets_of (drop i xs)) ≡ f
   unfolding filled
-  fill_end h = let s : length xs - i ≡ 0 = omega arith in rw s
+  fill_end h = rw (drop_all i es h) refl

@@ -1,6 +1,7 @@
 -- Only private contracts cite this file. What the parts of a build tell each other.
-use Rattle.std.specs.Prelude.{ℕ, ◌+◌, ◌*◌, ◌/◌, ◌<◌, ◌≤◌, false, List, [], ◌∷◌, map, length, take, get_or}
+use Rattle.std.specs.Prelude.{◌≡◌, ℕ, ◌+◌, ◌*◌, ◌/◌, ◌<◌, ◌≤◌, List, [], ◌∷◌, length}
 use Rattle.std.specs.Prelude.{Result, Ok, Err}
+use Rattle.std.specs.List.{All}
 use Rattle.std.proofs.Math.Option.{Option, none, some}
 use Rattle.subject_rules.specs.Answers.{Answer}
 use Rattle.sublist_area_rules.specs.declared.PlaceError.{PlaceError}
@@ -28,13 +29,9 @@ HasNodes a n = (0 < n) × (n * words_per_node ≤ length a)
 abbrev pub end_of : LineEnd → End
 end_of e = end e.node e.tail
 
--- where the first k lines end
-abbrev pub ends_of : ℕ → List LineEnd → List End
-ends_of k es = map end_of (take k es)
-
--- the first k lines end at nodes below n
-abbrev pub EndBelow : ℕ → List LineEnd → ℕ → Type 0
-EndBelow k es n = (i : ℕ) → i < k → (get_or es i (record { node = 0; tail = false })).node < n
+-- each line ends at a node below n
+abbrev pub EndBelow : ℕ → List LineEnd → Type 0
+EndBelow n es = All (λ e. e.node < n) es
 
 -- where a pattern ended, and the area then
 abbrev pub ended_as : Result Ended PlaceError → List ℕ → Growth
@@ -52,4 +49,4 @@ grown_as (Err e) a ends = stopped a
 
 -- they fit so many words, and k lines end at nodes that do
 abbrev pub AllFit : ℕ → List LineEnd → ℕ → ℕ → Type 0
-AllFit k es words n = (0 < n) × (n * 16 ≤ words) × EndBelow k es (words / 16)
+AllFit k es words n = (0 < n) × (n * 16 ≤ words) × (length es ≡ k) × EndBelow (words / 16) es

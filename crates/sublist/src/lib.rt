@@ -1,7 +1,7 @@
 // The table that a build makes of a list of entries. A port of IronBus's SublistBuilder, its `build`.
 #![tactic(auto)]
 
-ghost use Rattle.std.specs.Prelude.{◌≡◌, ◌+◌, ◌-◌, ◌*◌, ◌/◌, ◌%◌, ◌<◌, ◌≤◌, [], length, take, slice_set, IfOk};
+ghost use Rattle.std.specs.Prelude.{◌≡◌, ◌+◌, ◌-◌, ◌*◌, ◌/◌, ◌%◌, ◌<◌, ◌≤◌, [], map, length, take, slice_set, IfOk};
 ghost use Rattle.subject_rules.specs.Text.{tokens};
 ghost use Rattle.subject_rules.specs.Fnv.{fnv};
 ghost use Rattle.sublist_tree.specs.Tree.{line_of};
@@ -16,9 +16,10 @@ ghost use Rattle.sublist_rules.specs.Leaving.{build_into};
 ghost use Rattle.sublist_rules.specs.Core.{run_in, list_refused, all_in, root_worst, targets_of, finish_by};
 ghost use Rattle.sublist.specs.Answers.{built};
 ghost use Rattle.sublist.specs.Sharing.{same_key, shared_by, longest};
-ghost use Rattle.sublist.specs.Told.{refused, end_of, ends_of, ended_as, grown_as};
+ghost use Rattle.sublist.specs.Told.{refused, end_of, ended_as, grown_as};
 ghost use Rattle.sublist.specs.Told.{HasNode, HasNodes, EndBelow, EndFits, AllFit};
 
+use arrayvec::ArrayVec;
 use std::marker::Model;
 use subject::{SubjectError, is_star, is_tail, same_bytes, token_hash};
 use sublist_area::NODE_WORDS;
@@ -81,14 +82,14 @@ pub struct Built {
 }
 
 // Where a pattern ends: at a node, or at the `>` behind it.
-#[derive(Clone, Copy)]
+#[derive(Clone, Copy, Default)]
 struct LineEnd {
     node: u32,
     tail: bool,
 }
 
 // Where the patterns of a list end, in order.
-type Ends = [LineEnd; MAX_ENTRIES];
+type Ends = ArrayVec<LineEnd, MAX_ENTRIES>;
 
 // Where a pattern ended, and the node count afterwards.
 #[derive(Clone, Copy)]
@@ -130,7 +131,7 @@ impl<'a, F: EntryForm> Listing<'a, F> {
             return Err(SublistError::EntriesFull);
         }
         for i in 0..F::count(entries) {
-            check_entry(store, i, F::entry(entries, i))?;
+            check_entry(store, i, F::entry(entries, i).unwrap())?;
         }
         Ok(Listing { entries, store })
     }
@@ -143,12 +144,13 @@ impl<'a, F: EntryForm> Listing<'a, F> {
     }
 
     // The text of an entry.
+    #[tactic(auto, using(crate::proofs::Checks::text_inside, crate::proofs::Checks::text_depth))]
     fn text(&self, i: usize) -> &'a [u8]
         requires { i < length self.now.entries }
         ensures text { result.now ≡ text_of self.now.store (entry_at self.now.entries i) }
         ensures depth { length (tokens result.now) ≤ 32 }
     {
-        let e = F::entry(self.entries, i);
+        let e = F::entry(self.entries, i).unwrap();
         &self.store[e.start..e.start + e.length]
     }
 
@@ -157,11 +159,13 @@ impl<'a, F: EntryForm> Listing<'a, F> {
         requires { i < length self.now.entries }
         ensures { result ≡ target_word (entry_at self.now.entries i) }
     {
-        F::entry(self.entries, i).target
+        F::entry(self.entries, i).unwrap().target
     }
 }
 
 // 12 before 13.
+// Kept: `check_subject` of whole_move takes a part of a text as the first line does, by two calls of the library; one
+// public function for both would be longer than they are, with its contract and an edit.
 fn check_entry(store: &[u8], index: usize, e: Entry) -> Result<(), SublistError>
     ensures { refused result ≡ bad_entry store.now index e }
 {
@@ -202,6 +206,7 @@ fn child_key(token: &[u8]) -> ChildKey
 
 // A pattern's run of tokens is put in from the root.
 // Kept: nodes and their count apart; in a struct each pass would have to add that its `&mut` is the same and as long.
+#[tactic(auto, using(crate::proofs::Runs::run_end))]
 fn insert_pattern(node_words: &mut [u32], nodes: usize, text: &[u8]) -> Result<Ended, PlaceError>
     requires { HasNodes node_words.old nodes }
     ensures run { ended_as result node_words.new
@@ -255,6 +260,7 @@ fn count_end(node_words: &mut [u32], end: LineEnd)
 }
 
 // A pattern's run of tokens is put in, and its end counts it.
+#[tactic(auto, using(crate::proofs::Lines::line_ends, crate::proofs::Lines::line_stops))]
 fn insert_line(node_words: &mut [u32], nodes: usize, text: &[u8]) -> Result<Ended, PlaceError>
     requires { HasNodes node_words.old nodes }
     ensures line { ended_as result node_words.new
@@ -267,34 +273,40 @@ fn insert_line(node_words: &mut [u32], nodes: usize, text: &[u8]) -> Result<Ende
 }
 
 // First pass: each entry's run is put in, its end counts it and is noted. The answer is the node count.
+// Kept: a listing, its table's words and its ends apart, here and at `grow_table`, `put_targets` and `finish` below; in
+// a struct each pass would have to add that the listing is the same, and the `&mut` the same and as long.
+#[tactic(auto, using(crate::proofs::Lines::lines_stop, crate::proofs::Lines::lines_end))]
 fn insert_entries<F: EntryForm>(
     list: &Listing<'_, F>,
     node_words: &mut [u32],
     ends: &mut Ends,
 ) -> Result<usize, PlaceError>
-    requires { words_per_node ≤ length node_words.old }
-    ensures lines { grown_as result node_words.new (ends_of (length list.now.entries) ends.new)
+    requires room { words_per_node ≤ length node_words.old }
+    requires empty { ends.old.items ≡ [] }
+    ensures lines { grown_as result node_words.new (map end_of ends.new.items)
         ≡ lines_in (growth 1 node_words.old []) (lines_of list.now.store list.now.entries) }
-    ensures fits { IfOk result (AllFit (length list.now.entries) ends.new (length node_words.old)) }
+    ensures fits { IfOk result (AllFit (length list.now.entries) ends.new.items (length node_words.old)) }
 {
     let mut nodes = 1;
     for i in 0..list.count() {
         let ended = insert_line(node_words, nodes, list.text(i))?;
-        ends[i] = ended.end;
+        ends.push(ended.end);
         nodes = ended.count;
     }
     Ok(nodes)
 }
 
 // The root, and the first pass.
+#[tactic(auto, unfolding(sublist_area_rules::specs::Growing::rooted))]
 fn grow_table<F: EntryForm>(
     list: &Listing<'_, F>,
     node_words: &mut [u32],
     ends: &mut Ends,
 ) -> Result<usize, PlaceError>
-    ensures all { grown_as result node_words.new (ends_of (length list.now.entries) ends.new)
+    requires { ends.old.items ≡ [] }
+    ensures all { grown_as result node_words.new (map end_of ends.new.items)
         ≡ all_in list.now.entries list.now.store node_words.old }
-    ensures fits { IfOk result (AllFit (length list.now.entries) ends.new (length node_words.old)) }
+    ensures fits { IfOk result (AllFit (length list.now.entries) ends.new.items (length node_words.old)) }
 {
     sublist_area::plant(node_words)?;
     insert_entries(list, node_words, ends)
@@ -454,15 +466,16 @@ fn put_targets<F: EntryForm>(
     list: &Listing<'_, F>,
     node_words: &mut [u32],
     target_words: &mut [u32],
-    ends: &Ends,
+    ends: &[LineEnd],
 )
-    requires { EndBelow (length list.now.entries) ends.now (length node_words.old / words_per_node) }
+    requires each { length ends.now ≡ length list.now.entries }
+    requires below { EndBelow (length node_words.old / words_per_node) ends.now }
     ensures { filling node_words.new target_words.new
         ≡ filled (filling node_words.old target_words.old)
-        (ends_of (length list.now.entries) ends.now) (targets_of list.now.entries) }
+        (map end_of ends.now) (targets_of list.now.entries) }
 {
-    for i in 0..list.count() {
-        put_target(node_words, target_words, ends[i], list.target(i));
+    for (i, end) in ends.iter().enumerate() {
+        put_target(node_words, target_words, *end, list.target(i));
     }
 }
 
@@ -471,14 +484,14 @@ fn finish<F: EntryForm>(
     list: &Listing<'_, F>,
     node_words: &mut [u32],
     target_words: &mut [u32],
-    ends: &Ends,
+    ends: &[LineEnd],
     nodes: usize,
     generation: u64,
 ) -> Result<Built, SublistError>
     requires { AllFit (length list.now.entries) ends.now (length node_words.old) nodes }
     ensures { built result node_words.new target_words.new
         ≡ finish_by list.now.entries 0 target_words.old generation
-        (growth nodes node_words.old (ends_of (length list.now.entries) ends.now)) }
+        (growth nodes node_words.old (map end_of ends.now)) }
 {
     if target_words.len() < list.count() {
         return Err(SublistError::TargetsFull);
@@ -501,6 +514,7 @@ fn finish<F: EntryForm>(
 
 // Kept: the C interface lends a list, its store and the words of its table apart, here and at the two names below.
 // The table of a list of either form: 10, 12 and 13, 14, then the rest.
+#[tactic(auto, using(crate::proofs::Stages::bad_list))]
 fn build_list<F: EntryForm>(
     entries: &[F],
     store: &[u8],
@@ -513,10 +527,7 @@ fn build_list<F: EntryForm>(
         node_words.old target_words.old generation }
 {
     let list = Listing::new(entries, store)?;
-    let mut ends = [LineEnd {
-        node: 0,
-        tail: false,
-    }; MAX_ENTRIES];
+    let mut ends = Ends::new();
     let Ok(nodes) = grow_table(&list, node_words, &mut ends) else {
         return Err(SublistError::NodesFull(nodes_needed(&list)));
     };

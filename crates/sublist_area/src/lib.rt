@@ -1,7 +1,7 @@
 // The nodes of a table in a lent area of words: looking up a child, making one.
 #![tactic(auto)]
 
-ghost use Rattle.std.specs.Prelude.{◌≡◌, ◌+◌, ◌*◌, ◌/◌, ◌<◌, ◌≤◌, ◌^◌, length};
+ghost use Rattle.std.specs.Prelude.{◌≡◌, ◌+◌, ◌*◌, ◌/◌, ◌%◌, ◌<◌, ◌≤◌, ◌^◌, [], ◌∷◌, length};
 ghost use Rattle.sublist_area_rules.specs.Words.{words_per_node, key_of, hash_is, by_hash, linked, seek, child_of};
 ghost use Rattle.sublist_area_rules.specs.Growing.{fresh, hash_of, added, child_or_new, rooted};
 
@@ -29,13 +29,20 @@ const SIBLINGS: usize = 8;
 // The word of a node with its parent.
 const PARENT: usize = 12;
 
+// The words of a hash, low word first.
+fn halves(hash: u64) -> [u32; 2]
+    ensures { result ≡ hash % 2 ^ 32 ∷ hash / 2 ^ 32 ∷ [] }
+{
+    [(hash % WORD) as u32, (hash / WORD) as u32]
+}
+
 // Whether node `at` has the hash.
 fn has_hash(node_words: &[u32], at: usize, hash: u64) -> bool
     requires { at * words_per_node + words_per_node ≤ length node_words.now }
     ensures { result ≡ hash_is node_words.now at hash }
 {
-    node_words[at * NODE_WORDS] == (hash % WORD) as u32
-        && node_words[at * NODE_WORDS + 1] == (hash / WORD) as u32
+    let [low, high] = halves(hash);
+    node_words[at * NODE_WORDS] == low && node_words[at * NODE_WORDS + 1] == high
 }
 
 // What the number in a link leads to; 0 leads to no node.
@@ -54,6 +61,7 @@ fn linked(node_words: &[u32], count: usize, link: usize) -> Child
 }
 
 // The sibling with the hash, from a link on.
+#[tactic(auto, using(sublist_area_rules::proofs::Turns::at_next), unfolding(sublist_area_rules::specs::Words::seek))]
 fn seek_sibling(node_words: &[u32], count: usize, start: usize, hash: u64) -> Child
     requires { (count ≤ length node_words.now / words_per_node) × (start < count * words_per_node) }
     ensures { result ≡ seek (by_hash node_words.now hash) node_words.now count hash count start }
@@ -102,8 +110,7 @@ fn fresh(hash: u64, parent: u32) -> [u32; NODE_WORDS]
     ensures { result ≡ fresh hash parent }
 {
     let mut words = [0; NODE_WORDS];
-    words[0] = (hash % WORD) as u32;
-    words[1] = (hash / WORD) as u32;
+    words[..2].copy_from_slice(&halves(hash));
     words[PARENT] = parent;
     words
 }
@@ -144,7 +151,7 @@ fn hash_of(key: ChildKey) -> u64
 }
 
 // The child of a node by a key, made where it is missing.
-#[tactic(auto, unfolding(sublist_area_rules::specs::Growing::child_or_new, sublist_area_rules::specs::Growing::placed))]
+#[tactic(auto, using(sublist_area_rules::proofs::Ways::ways), unfolding(sublist_area_rules::specs::Growing::child_or_new))]
 pub fn child_or_new(
     node_words: &mut [u32],
     count: usize,

@@ -15,7 +15,8 @@ use Rattle.sublist_area_rules.specs.declared.PlaceError.{PlaceError}
 use Rattle.sublist_area_rules.specs.Words.{told, word, by_hash, literal_child, child_of}
 use Rattle.sublist_area_rules.specs.Growing.{planted, placed_at, child_or_new, onward, grown}
 use Rattle.sublist_area_rules.proofs.AnyKeys.{sought, child_by, child_or_new_by, onward_by, grown_by}
-use Rattle.sublist_area_rules.proofs.Places.{eqb_same, place}
+use Rattle.sublist_tree.proofs.Bytes.{eqb_whole}
+use Rattle.sublist_area_rules.proofs.Places.{place}
 use Rattle.sublist_area_rules.proofs.Rep.{Keys, Written, RepBy}
 use Rattle.sublist_area_rules.proofs.Grown.{GrewBy, PutInBy, RunEndsBy}
 use Rattle.sublist_area_rules.proofs.Lookup as lookup
@@ -41,7 +42,7 @@ hash_tells a i x y lo hi = go (ℕ_discrete y x)
 pub hashes : Keys eqb itself by_hash Unnamed
 hashes = record {
   sound = eqb-true;
-  whole = eqb_same;
+  whole = eqb_whole;
   tells = λ a i x y lo hi u. hash_tells a i x y lo hi;
   stays = λ a b i y e u. tt;
 }

@@ -61,6 +61,13 @@ module _ {K : Type 0} (eq : K → K → Bool) (sound : (h g : K) → eq h g ≡ 
         let less : v < size t = rw e at (link_less hash t x) in
         past x v g' (link_kept x v e n) n (key_old t p k' v less ∙ k) d (passes_kept h w)
 
+    -- it goes as it went, to what it is shown to come to
+    goes_on : (i : ℕ) (h : K) (s : Search eq hash t i h) → Ends eq hash (grow t p k') i h s.left s.word → Search eq hash (grow t p k') i h
+    unfolding size
+    goes_on i h s e =
+        let few = s.few in
+        record { steps = s.steps; left = s.left; word = s.word; few = omega arith; way = passes_kept h s.way; ends = e }
+
   -- the new node is no other's child
   child_other : (t : Trie K) (p : ℕ) (k' : Key K) (i : ℕ) (k : Key K) → (p ≡ i → k ≡ k' → ⊥) → child eq (grow t p k') i k ≡ child eq t i k
   unfolding child
@@ -75,60 +82,36 @@ module _ {K : Type 0} (eq : K → K → Bool) (sound : (h g : K) → eq h g ≡ 
     -- the child was there
     there : (s : Search eq hash t i h) → (child eq t i (lit h) ≡ 0 → ⊥) → link hash t s.word ≡ child eq t i (lit h) → key_at t (child eq t i (lit h)) ≡ lit h
         → Search eq hash (grow t p k') i h
-    unfolding size
     there s n e d =
-        let few = s.few in
         let c = child-kept eq sound whole t p k' i (lit h) free n in
-        record {
-          steps = s.steps;
-          left = s.left;
-          word = s.word;
-          few = omega arith;
-          way = passes_kept t p k' g free h s.way;
-          ends = inr (
-            λ z. n (sym c ∙ z),
-            link_kept t p k' g free s.word (child eq t i (lit h)) e n ∙ sym c,
-            ap (key_at (grow t p k')) c ∙ key_old t p k' (child eq t i (lit h)) (child_less eq t i (lit h)) ∙ d,
-          );
-        }
+        goes_on t p k' g free i h s
+        (inr (
+          λ z. n (sym c ∙ z),
+          link_kept t p k' g free s.word (child eq t i (lit h)) e n ∙ sym c,
+          ap (key_at (grow t p k')) c ∙ key_old t p k' (child eq t i (lit h)) (child_less eq t i (lit h)) ∙ d,
+        ))
 
     -- the search ends elsewhere than the search for the new node
     elsewhere : (s : Search eq hash t i h) → child eq t i (lit h) ≡ 0 → spot hash t i (lit h) ≡ (s.word, s.left) → (place hash t p k' ≡ place hash t i (lit h) → ⊥)
         → Search eq hash (grow t p k') i h
-    unfolding size
     elsewhere s z e ne =
-        let few = s.few in
-        record {
-          steps = s.steps;
-          left = s.left;
-          word = s.word;
-          few = omega arith;
-          way = passes_kept t p k' g free h s.way;
-          ends = inl (child_other t p k' i (lit h) (λ a b. ne (rw (a, b))) ∙ z, spot_off hash t p k' i (lit h) ne ∙ e);
-        }
+        goes_on t p k' g free i h s (inl (child_other t p k' i (lit h) (λ a b. ne (rw (a, b))) ∙ z, spot_off hash t p k' i (lit h) ne ∙ e))
 
   -- a literal that stands where the search ended: it is the one sought, or it is passed
   module _ (t : Trie K) (p : ℕ) (h' : K) (g : Good eq t) (free : child eq t p (lit h') ≡ 0) (h : K) where
     found : (s : Search eq hash t p h) → spot hash t p (lit h) ≡ (s.word, s.left) → h' ≡ h → Search eq hash (grow t p (lit h')) p h
     unfolding size
     found s e d =
-        let few = s.few in
         let y : s.word ≡ place hash t p (lit h') = sym (ap (λ v. v.0) e) ∙ ap (λ x. place hash t p (lit x)) (sym d) in
         let n = child-new eq sound whole t p (lit h') in
         let c : child eq (grow t p (lit h')) p (lit h) ≡ size t = ap (λ x. child eq (grow t p (lit h')) p (lit x)) (sym d) ∙ n in
         let pos = size_pos t in
-        record {
-          steps = s.steps;
-          left = s.left;
-          word = s.word;
-          few = omega arith;
-          way = passes_kept t p (lit h') g free h s.way;
-          ends = inr (
-            λ z. omega arith,
-            ap (link hash (grow t p (lit h'))) y ∙ link_new hash t p (lit h') ∙ sym c,
-            ap (key_at (grow t p (lit h'))) c ∙ key_new t p (lit h') ∙ ap lit d,
-          );
-        }
+        goes_on t p (lit h') g free p h s
+        (inr (
+          λ z. omega arith,
+          ap (link hash (grow t p (lit h'))) y ∙ link_new hash t p (lit h') ∙ sym c,
+          ap (key_at (grow t p (lit h'))) c ∙ key_new t p (lit h') ∙ ap lit d,
+        ))
 
     passed : (s : Search eq hash t p h) → child eq t p (lit h) ≡ 0 → spot hash t p (lit h) ≡ (s.word, s.left) → place hash t p (lit h') ≡ place hash t p (lit h) → (h' ≡ h → ⊥)
         → Search eq hash (grow t p (lit h')) p h

@@ -38,9 +38,6 @@ module _ {K : Type 0} where
 abbrev pub NoLink : ℕ → Type 0
 NoLink f = (f < 2) ⊎ (((3 < f) × (f < 8)) ⊎ (11 < f))
 
-pub eqb_same : (h : ℕ) → eqb h h ≡ true
-eqb_same h = eq-eqb h h refl
-
 module _ {K : Type 0} (hash : K → ℕ) where
   -- where the search for key k from node i ends, if it finds none, and what is then left of the hash: a new node that stands there is passed
   unfoldable pub spot : Trie K → ℕ → Key K → ℕ × ℕ

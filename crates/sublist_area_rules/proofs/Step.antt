@@ -136,7 +136,7 @@ module _ {K : Type 0} {eq : K → K → Bool} {hash : K → ℕ} {test : List �
     good = tt;
     lows = λ i h. zero_word i 0 h (omega arith);
     highs = λ i h. zero_word i 1 h (omega arith);
-    names = λ i y h e. let z : ◌≡◌ {A = ℕ} 0 1 = cc in absurd (omega arith);
+    names = λ i y h e. absurd (cc);
     heads = λ i f h l m. zero_word i f h (omega arith);
     nexts = λ i f h l. planted_zero a room (i * 16 + 8 + f) (omega arith);
     parents = λ i h. zero_word i 12 h (omega arith);

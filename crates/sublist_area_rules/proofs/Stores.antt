@@ -10,6 +10,7 @@ use borrow.Rule.Slice.PartMut.{put_mid}
 use borrow.Author.Tests.{lt-ltb, le-ltb}
 use Rattle.std.proofs.lemmas.List.Edits.{sets-eq}
 use Rattle.std.specs.Prelude.{Err}
+use Rattle.subject_rules.proofs.Stores.{zeros}
 use Rattle.sublist_area_rules.specs.declared.PlaceError.TheVariants.{Full}
 use Rattle.sublist_area_rules.specs.Growing.{fresh, added, planted, placed_at, rooted}
 
@@ -78,11 +79,6 @@ unfolding added
 length-added a n link h p = simp length-set
 
 -- a new node's words are 0, but for its hash and its parent
-zeros : (m f : ℕ) → get_or {A = ℕ} (replicate m 0) f 0 ≡ 0
-zeros zero f = refl
-zeros (suc m) zero = refl
-zeros (suc m) (suc f) = zeros m f
-
 but_one : (m f p : ℕ) (vs : List ℕ) → ((g : ℕ) → get_or vs g 0 ≡ 0) → (f ≡ m → ⊥) → get_or (replicate m 0 ++ (p ∷ vs)) f 0 ≡ 0
 but_one zero zero p vs z ne = absurd (ne refl)
 but_one zero (suc f) p vs z ne = z f

@@ -1,17 +1,16 @@
--- What each way through a turn of the loop of `seek_sibling` makes of `seek`.
+-- What a turn of the loop of `seek_sibling` makes of `seek`, and where a missing link stands.
 use Prim.Native.Nat.{ℕ, zero, suc, ◌+◌, ◌*◌, ◌/◌, ◌%◌, ◌<◌}
 use native.Mathlib.Omega.{arith}
-use mathlib.Core.Path.{◌≡◌, refl, sym, ◌∙◌}
-use mathlib.Core.Bool.{Bool, true, false}
+use mathlib.Core.Path.{◌≡◌, refl, sym}
 use mathlib.Core.List.{List}
 use lib.Dec.{leb, eqb}
 use lib.ListN.{get_or}
-use borrow.Author.Tests.{eq-eqb, ne_eqb, lt-leb, leb-false, eqb-false}
+use borrow.Author.Tests.{eq-eqb, ne_eqb, lt-leb, leb-false}
 use Rattle.subject_rules.specs.Choice.{pick}
 use Rattle.sublist_trie.proofs.Runs.{pick_ind}
 use Rattle.sublist_area_rules.specs.declared.Child.{Child}
 use Rattle.sublist_area_rules.specs.declared.Child.TheVariants.{Node, Missing, Damaged}
-use Rattle.sublist_area_rules.specs.Words.{Met, Here, Passed, Outside, met, linked, seek}
+use Rattle.sublist_area_rules.specs.Words.{Met, Here, Passed, Outside, met, seek}
 
 -- a link that is missing is a word of the n nodes
 abbrev pub Below : ℕ → Child → Type 0
@@ -20,9 +19,9 @@ Below n (Missing link) = link < n * 16
 Below n Damaged = Unit {0}
 
 pub below-missing : (n : ℕ) (c : Child) (link : ℕ) → Below n c → c ≡ Missing link → link < n * 16
-below-missing n (Node j) link b e = let z : ◌≡◌ {A = ℕ} 0 1 = cc in absurd (omega arith)
+below-missing n (Node j) link b e = absurd (cc)
 below-missing n (Missing l) link b e = let z : l ≡ link = cc in omega arith
-below-missing n Damaged link b e = let z : ◌≡◌ {A = ℕ} 0 1 = cc in absurd (omega arith)
+below-missing n Damaged link b e = absurd (cc)
 
 -- whatever the test of a node says
 pub met_ind : (P : Child → Type 0) (m : Met) {x y : Child} → (m ≡ Here → P x) → (m ≡ Passed → P y) → (m ≡ Outside → P Damaged) → P (met m x y)
@@ -30,61 +29,23 @@ met_ind P Here f g d = f refl
 met_ind P Passed f g d = g refl
 met_ind P Outside f g d = d refl
 
--- where a link leads to no node, what would come behind the node does not matter
-linked_stops : (b d : Bool) (link j : ℕ) (y : Child) → ((i : ℕ) → pick b (Missing link) (pick d Damaged (Node j)) ≡ Node i → ⊥)
-    → pick b (Missing link) (pick d Damaged (Node j)) ≡ pick b (Missing link) (pick d Damaged y)
-linked_stops true d link j y none = refl
-linked_stops false true link j y none = refl
-linked_stops false false link j y none = absurd (none j refl)
-
--- a link that leads to a node holds the number of one of the n nodes
-abbrev pub NodeLinked : ℕ → ℕ → Child → Type 0
-NodeLinked n id (Node j) = (j ≡ id) × ((j ≡ 0 → ⊥) × (j < n))
-NodeLinked n id (Missing link) = Unit {0}
-NodeLinked n id Damaged = Unit {0}
-
-pub linked_node : (a : List ℕ) (n link : ℕ) (c : Child) → c ≡ linked a n link → NodeLinked n (get_or a link 0) c
-linked_node a n link c e =
-    rw e
-    (pick_ind (NodeLinked n (get_or a link 0)) (eqb (get_or a link 0) 0) (λ _. tt)
-    (λ z. pick_ind (NodeLinked n (get_or a link 0)) (leb n (get_or a link 0)) (λ _. tt)
-    (λ t. (refl, (eqb-false (get_or a link 0) 0 z, leb-false n (get_or a link 0) t)))))
-
 module _ (test : ℕ → Met) (a : List ℕ) (n : ℕ) where
   pub seek_none : (rest f link : ℕ) → get_or a link 0 ≡ 0 → seek test a n rest f link ≡ Missing link
   unfolding seek
   seek_none rest zero link e = rw (eq-eqb (get_or a link 0) 0 e)
   seek_none rest (suc f) link e = rw (eq-eqb (get_or a link 0) 0 e)
 
-  pub seek_spent : (rest link : ℕ) → (get_or a link 0 ≡ 0 → ⊥) → seek test a n rest 0 link ≡ Damaged
-  unfolding seek
-  seek_spent rest link k = rw (ne_eqb (get_or a link 0) 0 k)
-
-  -- x is the answer that is sought, id is the number that stands in the link
-  module _ (x : Child) (rest f link id : ℕ) (e : x ≡ seek test a n rest f link) (q : id ≡ get_or a link 0) where
-    pub at_none : id ≡ 0 → Missing link ≡ x
-    at_none z = sym (e ∙ seek_none rest f link (sym q ∙ z))
-
-    pub at_spent : f ≡ 0 → (id ≡ 0 → ⊥) → Damaged ≡ x
-    at_spent z k = sym (e ∙ rw z (seek_spent rest link (λ w. k (q ∙ w))))
-
-    pub at_end : (c : Child) → c ≡ linked a n link → ((j : ℕ) → c ≡ Node j → ⊥) → (g : ℕ) → f ≡ suc g → c ≡ x
+  -- x is the answer that is sought, id is the number that stands in the link, and there are steps left
+  module _ (x : Child) (rest f link id : ℕ) (e : x ≡ seek test a n rest f link) (q : id ≡ get_or a link 0) (g : ℕ) (s : f ≡ suc g) (k : id ≡ 0 → ⊥) where
+    at_step : x ≡ pick (leb n id) Damaged (met (test id) (Node id) (seek test a n (rest / 4) g (id * 16 + 8 + rest % 4)))
     unfolding seek
-    at_end c l none g s =
-        l ∙ linked_stops (eqb (get_or a link 0) 0) (leb n (get_or a link 0)) link (get_or a link 0) _ (λ i h. none i (l ∙ h))
-        ∙ sym (rw s at e)
+    at_step = rw (s, ← q, ne_eqb id 0 k) at e
 
-    -- there are steps left
-    module _ (g : ℕ) (s : f ≡ suc g) (k : id ≡ 0 → ⊥) where
-      at_step : x ≡ pick (leb n id) Damaged (met (test id) (Node id) (seek test a n (rest / 4) g (id * 16 + 8 + rest % 4)))
-      unfolding seek
-      at_step = rw (s, ← q, ne_eqb id 0 k) at e
+    pub at-hit : id < n → test id ≡ Here → Node id ≡ x
+    at-hit l t = sym (rw (lt-leb n id l, t) at at_step)
 
-      pub at-hit : id < n → test id ≡ Here → Node id ≡ x
-      at-hit l t = sym (rw (lt-leb n id l, t) at at_step)
-
-      pub at_next : id < n → test id ≡ Passed → x ≡ seek test a n (rest / 4) g (id * 16 + 8 + rest % 4)
-      at_next l t = rw (lt-leb n id l, t) at at_step
+    pub at_next : id < n → test id ≡ Passed → x ≡ seek test a n (rest / 4) g (id * 16 + 8 + rest % 4)
+    at_next l t = rw (lt-leb n id l, t) at at_step
 
   pub seek-below : (f rest link : ℕ) → link < n * 16 → Below n (seek test a n rest f link)
   unfolding seek

@@ -3,19 +3,20 @@ use Prim.Native.Nat.{ℕ, ◌+◌, ◌*◌, ◌/◌, ◌≤◌, ◌<◌}
 use native.Mathlib.Omega.{arith}
 use mathlib.Core.Path.{◌≡◌, refl}
 use mathlib.Core.Logic.{◌⊎◌, inl, inr}
-use mathlib.Core.Bool.{Bool, true, false}
+use mathlib.Core.Bool.{false}
 use mathlib.Core.List.{List}
 use lib.Dec.{leb, ltb, eqb}
 use lib.ListN.{length, get_or}
 use borrow.Author.Tests.{le-ltb, le-leb, lt-leb, leb-false, ne_eqb}
 use Rattle.std.specs.Prelude.{Result, Err}
-use Rattle.subject_rules.specs.Choice.{pick, or}
+use Rattle.subject_rules.specs.Choice.{pick}
+use Rattle.subject_rules.proofs.Booleans.{or_right}
 use Rattle.sublist_trie.proofs.Runs.{pick_ind}
 use Rattle.sublist_area_rules.specs.declared.Child.{Child}
 use Rattle.sublist_area_rules.specs.declared.Child.TheVariants.{Node, Missing, Damaged}
 use Rattle.sublist_area_rules.specs.declared.Placed.{Placed}
 use Rattle.sublist_area_rules.specs.declared.PlaceError.{PlaceError}
-use Rattle.sublist_area_rules.specs.declared.PlaceError.TheVariants.{Full}
+use Rattle.sublist_area_rules.specs.declared.PlaceError.TheVariants.{Full, Broken}
 use Rattle.sublist_area_rules.specs.Words.{Met, word, by_hash, outside, seek, literal_child, star_child, child_of}
 use Rattle.sublist_area_rules.specs.Growing.{hash_of, added, placed_at, placed}
 use Rattle.sublist_area_rules.proofs.AnyKeys.{sought}
@@ -38,21 +39,17 @@ module _ (c : Child) (a : List ℕ) (n i : ℕ) (k : Key ℕ) where
   unfolding placed
   way_new link e h l = rw (e, lt-leb (length a / 16) n h, lt-leb 4294967295 n l)
 
+  pub way_damaged : c ≡ Damaged → (Err Broken, a) ≡ placed c a n i k
+  unfolding placed
+  way_damaged e = rw e
+
 -- where a node lies
-or_true : (b : Bool) → or b true ≡ true
-or_true true = refl
-or_true false = refl
-
-or_false : (b c : Bool) → or b c ≡ false → c ≡ false
-or_false true c e = let z : ◌≡◌ {A = ℕ} 0 1 = cc in absurd (omega arith)
-or_false false c e = e
-
 module _ (a : List ℕ) (n i : ℕ) where
   pub inside : n ≤ length a / 16 → i < n → outside a n i ≡ false
   inside h l = rw (le-ltb (length a / 16) n h, lt-leb n i l)
 
   pub inside_less : outside a n i ≡ false → i < n
-  inside_less e = leb-false n i (or_false (ltb (length a / 16) n) (leb n i) e)
+  inside_less e = leb-false n i (or_right (ltb (length a / 16) n) (leb n i) e)
 
   pub sought_in : (test : ℕ → Met) (h : ℕ) → n ≤ length a / 16 → i < n → seek test a n h n (i * 16 + 2) ≡ sought test a n i h
   unfolding sought
@@ -92,3 +89,5 @@ module _ (a : List ℕ) (n i : ℕ) where
       (pick_ind (Below n) (outside a n i) (λ _. tt)
       (λ t. seek-below (by_hash a h) a n n h (i * 16 + 2) (omega (arith, inside_less t))))
       e
+
+pub ruleset ways = (way_node, way_full, way_new, way_damaged, missing_child)

@@ -2,7 +2,7 @@
 -- one on the entries.
 --
 --   in_length       one entry for each whole three
---   three_read      what the threes of the numbers hold at a place, zeros past the last, is the entry there
+--   three_read      what the threes of the numbers hold at a place is the entry there
 --   entry_put       an entry's numbers that are put at once in its place are the entry put there
 --   put_entries     an entry put among the numbers is put among the entries
 --   numbers_mean    insert_numbers on the numbers is insert_into on the entries that they hold
@@ -17,6 +17,7 @@ use lib.Seq.{sets, set_out}
 use borrow.Author.Tests.{leb-true, lt-leb}
 use borrow.Rule.Slice.PartMut.{put_mid}
 use Rattle.std.proofs.lemmas.List.Edits.{sets-eq}
+use Rattle.std.proofs.lemmas.List.{get_or_default}
 use Rattle.std.proofs.lemmas.Slice.{put_mid-paste}
 use Rattle.std.proofs.Math.Nat.{mod-mod}
 use Rattle.std.specs.Simd.{first_chunks}
@@ -55,11 +56,12 @@ three_at (a ∷ b ∷ c ∷ ws) zero = rw (third (length ws)) refl
 three_at (a ∷ b ∷ c ∷ ws) (suc i) = rw (third (length ws)) (three_at ws i)
 
 -- t is what they hold at place i
-pub three_read : (ws : List ℕ) (i : ℕ) (threes : List (List ℕ)) → threes ≡ first_chunks 3 (length ws / 3) ws
-    → (t : List ℕ) → t ≡ get_or threes i (0 ∷ 0 ∷ 0 ∷ [])
+pub three_read : (ws : List ℕ) (i : ℕ) (threes : List (List ℕ)) → threes ≡ first_chunks 3 (length ws / 3) ws → i < length threes
+    → (t : List ℕ) → t ≡ get_or threes i t
     → with_word (record { start = get_or t 0 0; length = get_or t 1 0; target = get_or t 2 0 % 4294967296 })
     ≡ with_word (entry_at (entries_in ws) i)
-three_read ws i threes e t q = rw mod-mod (ap with_word (rw (← e, ← q) at (three_at ws i)))
+three_read ws i threes e h t q =
+    rw mod-mod (ap with_word (rw (← e, get_or_default threes i (0 ∷ 0 ∷ 0 ∷ []) t h, ← q) at (three_at ws i)))
 
 -- the numbers of an entry written where those of entry i belong are entry i
 module _ (e : Entry) where

@@ -63,9 +63,9 @@ module _ (list : ListState) (places bytes : ℕ) (pattern values : List ℕ) whe
           → when_accepted g (unless (pick (or b c) (some (answer 10 [])) none) (unless (pick d (some (answer 11 [])) none) (answer 0 (list_numbers (with_pattern list (length pattern)))))) ≡ answer 0 values
           → Room list places bytes (length pattern) × (values ≡ list_numbers (with_pattern list (length pattern)))
       go (answer (suc n) vs) b p c q d r e = let z : suc n ≡ 0 = cc in absurd (omega (arith, z))
-      go (answer zero vs) true p c q d r e = let z : ◌≡◌ {A = ℕ} 10 0 = cc in absurd (omega (arith, z))
-      go (answer zero vs) false p true q d r e = let z : ◌≡◌ {A = ℕ} 10 0 = cc in absurd (omega (arith, z))
-      go (answer zero vs) false p false q true r e = let z : ◌≡◌ {A = ℕ} 11 0 = cc in absurd (omega (arith, z))
+      go (answer zero vs) true p c q d r e = absurd (cc)
+      go (answer zero vs) false p true q d r e = absurd (cc)
+      go (answer zero vs) false p false q true r e = absurd (cc)
       go (answer zero vs) false p false q false r e = (
         record {
           few = leb-false 2048 list.entries p;

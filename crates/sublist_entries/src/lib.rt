@@ -3,7 +3,7 @@
 // An entry is a record, or three plain numbers: start, length, target.
 #![tactic(auto)]
 
-ghost use Rattle.std.specs.Prelude.{◌≡◌, List, ℕ, length, set};
+ghost use Rattle.std.specs.Prelude.{◌≡◌, ◌<◌, ◌≤◌, List, ℕ, length, set, MatchOption};
 ghost use Rattle.sublist_tree.specs.Lists.{put};
 ghost use Rattle.sublist_entries.specs.Entries.{entry_at, with_word};
 ghost use Rattle.sublist_entries.specs.Inserting.{insert_says, appended, after_answer, insert_by, insert_into};
@@ -29,13 +29,6 @@ pub struct Entry {
     pub length: usize,
     pub target: u32,
 }
-
-// What stands past the last entry of a list.
-const NO_ENTRY: Entry = Entry {
-    start: 0,
-    length: 0,
-    target: 0,
-};
 
 // How many entries of a lent list and how many bytes of its text store are in use.
 #[derive(Clone, Copy)]
@@ -77,9 +70,10 @@ pub trait EntryForm: Copy {
     fn count(list: &[Self]) -> usize
         ensures { result ≡ length (entries list.now) };
 
-    // The entry at a place, its target as a word; past the last the record of zeros.
-    fn entry(list: &[Self], i: usize) -> Entry
-        ensures { with_word result ≡ with_word (entry_at (entries list.now) i) };
+    // The entry at a place, its target as a word; none past the last.
+    fn entry(list: &[Self], i: usize) -> Option<Entry>
+        ensures { MatchOption result (length (entries list.now) ≤ i)
+            (λ e. (i < length (entries list.now)) × (with_word e ≡ with_word (entry_at (entries list.now) i))) };
 
     // An entry is put at a place; where the list has no such place, nothing is.
     fn put(list: &mut [Self], i: usize, e: Entry)
@@ -95,8 +89,8 @@ impl EntryForm for Entry {
         list.len()
     }
 
-    fn entry(list: &[Entry], i: usize) -> Entry {
-        list.get(i).copied().unwrap_or(NO_ENTRY)
+    fn entry(list: &[Entry], i: usize) -> Option<Entry> {
+        list.get(i).copied()
     }
 
     fn put(list: &mut [Entry], i: usize, e: Entry) {
@@ -117,15 +111,15 @@ impl EntryForm for usize {
         list.len() / ENTRY_NUMBERS
     }
 
-    #[tactic(auto, using(crate::proofs::Numbered::three_read))]
-    fn entry(list: &[usize], i: usize) -> Entry {
+    #[tactic(auto, using(crate::proofs::Numbered::in_length, crate::proofs::Numbered::three_read))]
+    fn entry(list: &[usize], i: usize) -> Option<Entry> {
         let (threes, _) = list.as_chunks::<ENTRY_NUMBERS>();
-        let [start, length, target] = threes.get(i).copied().unwrap_or([0; ENTRY_NUMBERS]);
-        Entry {
+        let [start, length, target] = *threes.get(i)?;
+        Some(Entry {
             start,
             length,
             target: (target % TARGETS) as u32,
-        }
+        })
     }
 
     fn put(list: &mut [usize], i: usize, e: Entry) {
@@ -147,6 +141,7 @@ pub fn put_entry(words: &mut [usize], i: usize, e: Entry)
 }
 
 // Rules 1 to 9, then 10 and 11, for a list of so many places; an accepted pattern's text goes into the store.
+#[tactic(auto, using(crate::proofs::Deciding::insert_ways))]
 fn place_text(
     list: ListState,
     places: usize,

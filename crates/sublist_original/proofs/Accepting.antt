@@ -39,8 +39,8 @@ accepted-fits wild bs vs e = go (ltb 4096 (length bs)) refl (first_bad bs) refl 
   where
     go : (b : Bool) → ltb 4096 (length bs) ≡ b → (o : Option ℕ) → first_bad bs ≡ o
         → pick b (answer 1 []) (unless (not_utf8 o) (pick (eqb (length bs) 0) (answer 3 []) (check wild none 0 (tokens bs)))) ≡ answer 0 vs → (length bs ≤ 4096) × (first_bad bs ≡ none)
-    go true l o u e = let z : ◌≡◌ {A = ℕ} 1 0 = cc in absurd (omega arith)
-    go false l (some i) u e = let z : ◌≡◌ {A = ℕ} 2 0 = cc in absurd (omega arith)
+    go true l o u e = absurd (cc)
+    go false l (some i) u e = absurd (cc)
     go false l none u e = (ltb-false 4096 (length bs) l, u)
 
 -- and the original accepts it, with the same count
@@ -80,7 +80,7 @@ inserted builder (x ∷ es) after e = go (validate x.pattern true) refl e (inser
         → (insert_all next (pairs es) ≡ subject.Ok after → All Valid es × (after.entries ≡ next.entries ++ pairs es))
         → All Valid (x ∷ es) × (after.entries ≡ builder.entries ++ pairs (x ∷ es))
     go (subject.Ok n) v e ih = let w = ih e in (((n, v), w.0), w.1 ∙ append_assoc builder.entries (pair x ∷ []) (pairs es))
-    go (subject.Err f) v e ih = let z : ◌≡◌ {A = ℕ} 0 1 = cc in absurd (omega arith)
+    go (subject.Err f) v e ih = absurd (cc)
 
 -- the entries that it accepts, their texts UTF-8 of at most 4,096 bytes
 abbrev pub Fits : TableEntry → Type 0

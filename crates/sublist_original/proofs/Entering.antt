@@ -8,11 +8,12 @@ use mathlib.Core.List.{List, [], ◌∷◌, ◌++◌, append-nil, append_assoc}
 use lib.Dec.{eqb}
 use lib.ListN.{length, length-map}
 use borrow.Author.Tests.{eq-eqb, ne_eqb}
-use Rattle.subject_rules.specs.Choice.{pick, and}
+use Rattle.subject_rules.specs.Choice.{pick}
 use Rattle.subject_rules.specs.Text.{tokens, is_star, is_tail}
 use Rattle.subject_rules.specs.Fnv.{fnv}
 use Rattle.subject_rules.specs.Original as subject
 use Rattle.subject_rules.specs.Original.{when◌then◌else◌, equal, WILDCARD_ONE, WILDCARD_TAIL, validate}
+use Rattle.subject_rules.proofs.SameMatching.{equal-star, equal-tail}
 use Rattle.subject_rules.proofs.SameGrammar.{split-tokens, depth_original, depth_bounded}
 use Rattle.sublist_tree.specs.Lists.{All}
 use Rattle.sublist_tree.specs.Tree.{Key, star, lit, Line, line, onto, target_of, line_of, keys_of}
@@ -25,25 +26,8 @@ use Rattle.sublist_trie.proofs.Runs.{size_pos, child_less}
 use Rattle.sublist_trie.proofs.Growth.{run_ins}
 use Rattle.sublist_original.specs.Original.{Outcome, Ok, ◌>>=◌, Arena, root_alone, push_gt_terminal, each_token, each_entry}
 use Rattle.sublist_original.specs.Entries.{pairs}
-use Rattle.subject_rules.proofs.Booleans.{and_false, and_true}
 use Rattle.sublist_rules.proofs.Composed.{from_most, ins_most, onto-target}
 use Rattle.sublist_original.proofs.Arenas.{Stands, stepped, descend, descend_there, joined, descend_new, stands_new, exact_more, tail_more, stands_root}
-
--- ---- tests in the two spellings
-
-if_and : (w : Bool) (b : Bool) → (when w then b else false) ≡ and w b
-if_and true b = refl
-if_and false b = refl
-
-equal-star : (t : List ℕ) → equal t (WILDCARD_ONE ∷ []) ≡ is_star t
-equal-star [] = refl
-equal-star (b ∷ []) = if_and (eqb b 0x2a) true ∙ and_true (eqb b 0x2a)
-equal-star (b ∷ c ∷ bs) = if_and (eqb b 0x2a) false ∙ and_false (eqb b 0x2a)
-
-equal-tail : (t : List ℕ) → equal t (WILDCARD_TAIL ∷ []) ≡ is_tail t
-equal-tail [] = refl
-equal-tail (b ∷ []) = if_and (eqb b 0x3e) true ∙ and_true (eqb b 0x3e)
-equal-tail (b ∷ c ∷ bs) = if_and (eqb b 0x3e) false ∙ and_false (eqb b 0x3e)
 
 -- ---- a pattern's tokens
 

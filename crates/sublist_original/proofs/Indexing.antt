@@ -24,7 +24,7 @@ module _ {A : Type 0} where
 
   -- what is found by an index stands in the list
   pub index_found : (xs : List A) (i : ℕ) (x : A) → xs ! i ≡ Ok x → In x xs
-  index_found [] i x e = let z : ◌≡◌ {A = ℕ} 0 1 = cc in absurd (omega arith)
+  index_found [] i x e = absurd (cc)
   index_found (y ∷ xs) zero x e = inl (cc)
   index_found (y ∷ xs) (suc i) x e = inr (index_found xs i x e)
 

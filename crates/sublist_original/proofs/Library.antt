@@ -122,13 +122,13 @@ searched [] key = none
 searched (x ∷ xs) key = pick (eqb x.0 key) (some 0) (next_place (searched xs key))
 
 pub searched_found : (xs : List Literal) (key i : ℕ) → searched xs key ≡ some i → (x : Literal) × (xs ! i ≡ Ok x) × (x.0 ≡ key)
-searched_found [] key i e = let z : ◌≡◌ {A = ℕ} 0 1 = cc in absurd (omega arith)
+searched_found [] key i e = absurd (cc)
 searched_found (x ∷ xs) key i e = go (eqb x.0 key) refl (searched xs key) refl e (searched_found xs key)
   where
     go : (b : Bool) → eqb x.0 key ≡ b → (o : Option ℕ) → searched xs key ≡ o → pick b (some 0) (next_place o) ≡ some i
         → ((j : ℕ) → searched xs key ≡ some j → (y : Literal) × (xs ! j ≡ Ok y) × (y.0 ≡ key)) → (y : Literal) × ((x ∷ xs) ! i ≡ Ok y) × (y.0 ≡ key)
     go true b o f e ih = let z : 0 ≡ i = cc in (x, rw (← z) refl, eqb-true x.0 key b)
-    go false b none f e ih = let z : ◌≡◌ {A = ℕ} 0 1 = cc in absurd (omega arith)
+    go false b none f e ih = absurd (cc)
     go false b (some j) f e ih = let z : suc j ≡ i = cc in let w = ih j f in (w.0, rw (← z) w.1, w.2)
 
 pub searched_missing : (xs : List Literal) (key : ℕ) → searched xs key ≡ none → Each (λ x. x.0 ≡ key → ⊥) xs
@@ -137,9 +137,9 @@ searched_missing (x ∷ xs) key e = go (eqb x.0 key) refl (searched xs key) refl
   where
     go : (b : Bool) → eqb x.0 key ≡ b → (o : Option ℕ) → searched xs key ≡ o → pick b (some 0) (next_place o) ≡ none
         → (searched xs key ≡ none → Each (λ x. x.0 ≡ key → ⊥) xs) → Each (λ x. x.0 ≡ key → ⊥) (x ∷ xs)
-    go true b o f e ih = let z : ◌≡◌ {A = ℕ} 0 1 = cc in absurd (omega arith)
+    go true b o f e ih = absurd (cc)
     go false b none f e ih = (eqb-false x.0 key b, ih f)
-    go false b (some j) f e ih = let z : ◌≡◌ {A = ℕ} 0 1 = cc in absurd (omega arith)
+    go false b (some j) f e ih = absurd (cc)
 
 abbrev pub simple : Std
 simple = record {

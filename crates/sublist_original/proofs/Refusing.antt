@@ -54,7 +54,7 @@ module _ (store : List ℕ) where
   entry-bad index x inside plain = rw (le-ltb (length store) (x.start + x.length) inside, grammar_original true (text_of store x) plain.0 plain.1)
 
   pub first-bad : (index : ℕ) (es : List Entry) → All (Inside store) es → All (λ e. Plain (text_of store e)) es → (r : Answer) → bad_entries store index es ≡ some r → FirstBad store es r
-  first-bad index [] inside plain r e = let z : ◌≡◌ {A = ℕ} 0 1 = cc in absurd (omega arith)
+  first-bad index [] inside plain r e = absurd (cc)
   first-bad index (x ∷ es) inside plain r e = go (validate (text_of store x) true) refl (first-bad (index + 1) es inside.1 plain.1 r)
     where
       says : (v : subject.Result ℕ) → validate (text_of store x) true ≡ v → first_of (invalid (answer_of v)) (bad_entries store (index + 1) es) ≡ some r
@@ -103,20 +103,20 @@ each_append ((p, t) ∷ xs) ys a b e = parses (λ c f. each_append xs ys c b f) 
 
     joins : More → (m : Outcome (Arena ℕ)) → (m >>= (λ c. each_entry c xs)) ≡ Ok b → (m >>= (λ c. each_entry c (xs ++ ys))) ≡ each_entry b ys
     joins more (Ok c) e = more c e
-    joins more (Err f) e = let z : ◌≡◌ {A = ℕ} 0 1 = cc in absurd (omega arith)
-    joins more Panic e = let z : ◌≡◌ {A = ℕ} 0 1 = cc in absurd (omega arith)
+    joins more (Err f) e = absurd (cc)
+    joins more Panic e = absurd (cc)
 
     places : More → (m : Outcome (NodeId × Bool × Arena ℕ)) → (m >>= (λ placed. ends placed >>= (λ c. each_entry c xs))) ≡ Ok b
         → (m >>= (λ placed. ends placed >>= (λ c. each_entry c (xs ++ ys)))) ≡ each_entry b ys
     places more (Ok placed) e = joins more (ends placed) e
-    places more (Err f) e = let z : ◌≡◌ {A = ℕ} 0 1 = cc in absurd (omega arith)
-    places more Panic e = let z : ◌≡◌ {A = ℕ} 0 1 = cc in absurd (omega arith)
+    places more (Err f) e = absurd (cc)
+    places more Panic e = absurd (cc)
 
     parses : More → (m : Outcome ℕ) → (m >>= (λ depth. each_token t ROOT a (tokens p) >>= (λ placed. ends placed >>= (λ c. each_entry c xs)))) ≡ Ok b
         → (m >>= (λ depth. each_token t ROOT a (tokens p) >>= (λ placed. ends placed >>= (λ c. each_entry c (xs ++ ys))))) ≡ each_entry b ys
     parses more (Ok depth) e = places more (each_token t ROOT a (tokens p)) e
-    parses more (Err f) e = let z : ◌≡◌ {A = ℕ} 0 1 = cc in absurd (omega arith)
-    parses more Panic e = let z : ◌≡◌ {A = ℕ} 0 1 = cc in absurd (omega arith)
+    parses more (Err f) e = absurd (cc)
+    parses more Panic e = absurd (cc)
 
 module _ (std : Std) (store : List ℕ) (es : List Entry) (says : Answer) (k : FirstBad store es says) (few : length es ≤ 2048) where
   parts : pairs (read_from store es) ≡ pairs (read_from store k.front) ++ (pair (record { pattern = text_of store k.entry; target = target_word k.entry }) ∷ pairs (read_from store k.rest))

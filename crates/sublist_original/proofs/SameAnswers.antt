@@ -66,7 +66,7 @@ insert_parses builder pattern target e q = go (validate pattern true) q
     next = record { entries = push builder.entries (pattern, target) }
 
     go : (r : subject.Result ℕ) → subject.◌>>=◌ r (λ depth. subject.Ok next) ≡ subject.Err e → r ≡ subject.Err e
-    go (subject.Ok n) q = let z : ◌≡◌ {A = ℕ} 0 1 = cc in absurd (omega arith)
+    go (subject.Ok n) q = absurd (cc)
     go (subject.Err f) q = cc
 
 insert_keeps : (builder : SublistBuilder ℕ) (pattern : List ℕ) (target : ℕ) (after : SublistBuilder ℕ) → insert builder pattern target ≡ subject.Ok after
@@ -79,7 +79,7 @@ insert_keeps builder pattern target after q = go (validate pattern true) refl q
     go : (r : subject.Result ℕ) → validate pattern true ≡ r → subject.◌>>=◌ r (λ depth. subject.Ok next) ≡ subject.Ok after
         → (n : ℕ) × (validate pattern true ≡ subject.Ok n) × (after.entries ≡ push builder.entries (pattern, target))
     go (subject.Ok n) v q = let same : next ≡ after = cc in (n, v, ap (λ (b : SublistBuilder ℕ). b.entries) (sym same))
-    go (subject.Err f) v q = let z : ◌≡◌ {A = ℕ} 0 1 = cc in absurd (omega arith)
+    go (subject.Err f) v q = absurd (cc)
 
 -- a text that is UTF-8 of at most 4,096 bytes, and any list
 module _ (pattern : List ℕ) (short : length pattern ≤ 4096) (utf8 : first_bad pattern ≡ none) (list : ListState) (places bytes : ℕ) (builder : SublistBuilder ℕ) (target : ℕ) where

@@ -43,8 +43,8 @@ refused-plain wild bs n values e f = go (ltb 4096 (length bs)) refl (first_bad b
   where
     go : (b : Bool) → ltb 4096 (length bs) ≡ b → (o : Option ℕ) → first_bad bs ≡ o
         → pick b (answer 1 []) (unless (not_utf8 o) (pick (eqb (length bs) 0) (answer 3 []) (check wild none 0 (tokens bs)))) ≡ answer n values → Plain bs
-    go true l o u e = let z : added_refusal (answer 1 []) ≡ false = ap added_refusal e ∙ f in let y : ◌≡◌ {A = ℕ} 0 1 = cc in absurd (omega arith)
-    go false l (some i) u e = let z : added_refusal (answer 2 (i ∷ [])) ≡ false = ap added_refusal e ∙ f in let y : ◌≡◌ {A = ℕ} 0 1 = cc in absurd (omega arith)
+    go true l o u e = let z : added_refusal (answer 1 []) ≡ false = ap added_refusal e ∙ f in absurd (cc)
+    go false l (some i) u e = let z : added_refusal (answer 2 (i ∷ [])) ≡ false = ap added_refusal e ∙ f in absurd (cc)
     go false l none u e = (ltb-false 4096 (length bs) l, u)
 
 module _ (taken : List TableEntry) (d : Desk) (e : TableEntry) where
@@ -63,8 +63,8 @@ module _ (taken : List TableEntry) (d : Desk) (e : TableEntry) where
     where
       go : (g : Answer) → grammar true e.pattern ≡ g → (b c : Bool) → by g b c ≡ answer (suc n) values → grammar true e.pattern ≡ answer (suc n) values
       go (answer (suc m) us) p b c q = p ∙ q
-      go (answer zero us) p true c q = let z : added_refusal (answer 10 []) ≡ false = ap added_refusal q ∙ f in let y : ◌≡◌ {A = ℕ} 0 1 = cc in absurd (omega arith)
-      go (answer zero us) p false true q = let z : added_refusal (answer 11 []) ≡ false = ap added_refusal q ∙ f in let y : ◌≡◌ {A = ℕ} 0 1 = cc in absurd (omega arith)
+      go (answer zero us) p true c q = let z : added_refusal (answer 10 []) ≡ false = ap added_refusal q ∙ f in absurd (cc)
+      go (answer zero us) p false true q = let z : added_refusal (answer 11 []) ≡ false = ap added_refusal q ∙ f in absurd (cc)
       go (answer zero us) p false false q = let z : 0 ≡ suc n = cc in absurd (omega (arith, z))
 
   accepted-text : (values : List ℕ) → demanded taken d e ≡ answer 0 values → ((n : ℕ) × (grammar true e.pattern ≡ answer 0 (n ∷ []))) × (length taken < 2048)
@@ -73,7 +73,7 @@ module _ (taken : List TableEntry) (d : Desk) (e : TableEntry) where
       go : (g : Answer) → grammar true e.pattern ≡ g → (b : Bool) → leb 2048 (length taken) ≡ b → (c h : Bool) → by g (or b c) h ≡ answer 0 values
           → ((n : ℕ) × (grammar true e.pattern ≡ answer 0 (n ∷ []))) × (length taken < 2048)
       go (answer (suc m) us) p b r c h q = let z : suc m ≡ 0 = cc in absurd (omega (arith, z))
-      go (answer zero us) p true r c h q = let z : ◌≡◌ {A = ℕ} 10 0 = cc in absurd (omega (arith, z))
+      go (answer zero us) p true r c h q = absurd (cc)
       go (answer zero us) p false r c h q = (not_invalid e.pattern (rw p), leb-false 2048 (length taken) r)
 
 -- ---- both sides

@@ -118,7 +118,7 @@ module _ (std : Std) (es : List TableEntry) (few : length es ≤ 2048) (builder 
   given P f table made = go (dec_lt 1024 (worst eqb 32 (root_of fnv es)))
     where
       go : Dec (1024 < worst eqb 32 (root_of fnv es)) → P table
-      go (yes over) = let never = build-refused over in let z : ◌≡◌ {A = ℕ} 0 1 = cc in absurd (omega arith)
+      go (yes over) = let never = build-refused over in absurd (cc)
       go (no under) = let e = made-is (omega arith) in let same : table_of std es valid few generation ≡ table = cc in rw (← same) (f (omega arith))
 
   -- no two literals of a node have one hash: a search has one match at the most

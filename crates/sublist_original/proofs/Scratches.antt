@@ -5,7 +5,7 @@ use native.Mathlib.Decide.{ℕ_discrete}
 use mathlib.Core.Path.{◌≡◌, refl, sym, ◌∙◌, ap}
 use mathlib.Core.Logic.{◌⊎◌, inl, inr}
 use mathlib.Core.Bool.{Bool, true, false}
-use mathlib.Core.List.{List, [], ◌∷◌, ◌++◌}
+use mathlib.Core.List.{List, [], ◌∷◌, ◌++◌, map-append}
 use mathlib.Core.Option.{Option, none, some}
 use lib.Dec.{eqb}
 use lib.ListN.{length, get_or, set, length-set}
@@ -14,7 +14,7 @@ use borrow.Author.Tests.{eq-eqb, ne_eqb, eqb-true, eqb-false}
 use Rattle.subject_rules.specs.Choice.{pick}
 use Rattle.sublist_tree.specs.Lists.{All}
 use Rattle.sublist_tree.specs.Tree.{Key, star, lit, key_is}
-use Rattle.sublist_tree.proofs.Sorting.{map-append, All-append}
+use Rattle.sublist_tree.proofs.Sorting.{All-append}
 use Rattle.sublist_tree.proofs.Bytes.{eqb_sound, eqb_whole}
 use Rattle.sublist_trie.proofs.Trie.{Trie, root, grow, size, child, Good}
 use Rattle.sublist_tree.proofs.Members.{In, Distinct, All-in, in_left, in_right, in_append}
@@ -41,7 +41,7 @@ pub record Nodes (ns : List NodeScratch) (t : Trie ℕ) : Type 0 where
 -- ---- the search for a literal
 
 find_some : (xs : List Literal) (h c : ℕ) → find xs h ≡ some c → In {A = Literal} (h, c) xs
-find_some [] h c e = let z : ◌≡◌ {A = ℕ} 0 1 = cc in absurd (omega arith)
+find_some [] h c e = absurd (cc)
 find_some ((g, n) ∷ xs) h c e = go (eqb g h) refl e (find_some xs h c)
   where
     go : (b : Bool) → eqb g h ≡ b → pick b (some n) (find xs h) ≡ some c → (find xs h ≡ some c → In {A = Literal} (h, c) xs) → In {A = Literal} (h, c) ((g, n) ∷ xs)

@@ -13,6 +13,7 @@ use Rattle.subject_rules.specs.Text.{tokens, is_star, is_tail}
 use Rattle.subject_rules.specs.Utf8.{first_bad}
 use Rattle.subject_rules.specs.Answers.{Answer, answer, unless}
 use Rattle.subject_rules.specs.Grammar.{bad_char, first_of, bad_chars, bad_token, tail_at, check, not_utf8, grammar}
+use Rattle.subject_rules.proofs.Depths.{first_none}
 use Rattle.sublist_tree.specs.Lists.{All}
 use Rattle.sublist_entries.specs.declared.Entry.{Entry}
 use Rattle.sublist_entries.specs.Entries.{text_of}
@@ -87,7 +88,7 @@ not_invalid bs e = go (grammar true bs) (one-grammar true bs) e
     go (answer zero []) o e = absurd o
     go (answer zero (n ∷ [])) o e = (n, refl)
     go (answer zero (n ∷ (m ∷ vs))) o e = absurd o
-    go (answer (suc k) vs) o e = let z : ◌≡◌ {A = ℕ} 0 1 = cc in absurd (omega arith)
+    go (answer (suc k) vs) o e = absurd (cc)
 
 -- the entry lies in the text store, and its text is a pattern
 abbrev pub Sound : List ℕ → Entry → Type 0
@@ -97,13 +98,8 @@ sound-entry : (store : List ℕ) (index : ℕ) (e : Entry) → bad_entry store i
 sound-entry store index e q = go (ltb (length store) (e.start + e.length)) refl q
   where
     go : (b : Bool) → ltb (length store) (e.start + e.length) ≡ b → pick b (some (answer 12 (index ∷ []))) (invalid (grammar true (text_of store e))) ≡ none → Sound store e
-    go true l q = let z : ◌≡◌ {A = ℕ} 0 1 = cc in absurd (omega arith)
+    go true l q = absurd (cc)
     go false l q = (ltb-false (length store) (e.start + e.length) l, not_invalid (text_of store e) q)
-
--- neither of the two is refused
-pub first_none : (x y : Option Answer) → first_of x y ≡ none → (x ≡ none) × (y ≡ none)
-first_none none y e = (refl, e)
-first_none (some a) y e = let z : ◌≡◌ {A = ℕ} 0 1 = cc in absurd (omega arith)
 
 pub sound-entries : (store : List ℕ) (index : ℕ) (es : List Entry) → bad_entries store index es ≡ none → All (Sound store) es
 sound-entries store index [] q = tt

@@ -1,5 +1,5 @@
 -- What an accepted build leaves: its areas hold the tree of its entries, whose worst case is at most 1,024, and the places behind are left.
-use Prim.Native.Nat.{ℕ, zero, suc, ◌+◌, ◌-◌, ◌*◌, ◌/◌, ◌≤◌}
+use Prim.Native.Nat.{ℕ, zero, suc, ◌+◌, ◌-◌, ◌*◌, ◌/◌, ◌<◌, ◌≤◌, ◌^◌}
 use native.Mathlib.Omega.{arith}
 use mathlib.Core.Path.{◌≡◌, refl, sym, ap, ◌∙◌, subst}
 use mathlib.Core.Bool.{Bool, true, false}
@@ -22,13 +22,13 @@ use Rattle.sublist_walk_rules.specs.Holds.{Holds}
 use Rattle.sublist_entries.specs.declared.Entry.{Entry}
 use Rattle.sublist_entries.specs.Entries.{text_of, target_word, read_from, lines_of}
 use Rattle.sublist_rules.specs.Building.{invalid, bad_entry, bad_entries, needed, worst_of, over_limit, build_says}
-use Rattle.sublist_rules.specs.Passes.{End, Growth, growth, stopped, lines_in, settled, laid, filling, last_passes}
+use Rattle.sublist_rules.specs.Passes.{End, Growth, growth, stopped, lines_in, settled, laid, Filling, filling, last_passes}
 use Rattle.sublist_rules.specs.Leaving.{started, build_leaves}
 use Rattle.sublist_rules.specs.Passes.{node_words_in, target_words_in}
-use Rattle.sublist_rules.proofs.Entering.{to_end}
+use Rattle.sublist_rules.proofs.Entering.{to_end, AllIn}
 use Rattle.sublist_rules.proofs.Over.{within, not_over}
 use Rattle.sublist_rules.proofs.Standing.{target_end, stands, targets-kept}
-use Rattle.sublist_rules.proofs.Composed.{long, no_room, all_accepted, needs, ends-length, end-targets, entered}
+use Rattle.sublist_rules.proofs.Composed.{says_of, long, no_room, all_accepted, needs, ends-length, end-targets, entered}
 use Rattle.sublist_rules.proofs.Behind.{settled-left, laid-left, filled-left}
 use Rattle.sublist_rules.proofs.Keeping.{finished_keeps}
 
@@ -71,15 +71,14 @@ taken es store room places generation vs e =
   where
     go : (b : Bool) → ltb 2048 (length es) ≡ b → (o : Option Answer) → bad_entries store 0 es ≡ o → (c : Bool) → ltb room (needed store es) ≡ c
         → (d : Bool) → ltb places (length es) ≡ d → (f : Bool) → over_limit (worst_of store es) ≡ f
-        → pick b (answer 10 []) (unless o (pick c (answer 14 (needed store es ∷ [])) (pick d (answer 15 []) (pick f (answer 16 (worst_of store es ∷ 1024 ∷ []))
-        (answer 0 (needed store es ∷ worst_of store es ∷ generation ∷ [])))))) ≡ answer 0 vs
+        → pick b (answer 10 []) (unless o (says_of es store generation c d f)) ≡ answer 0 vs
         → Taken es store room places × (vs ≡ needed store es ∷ worst_of store es ∷ generation ∷ [])
-    go true p o q c r d s f t e = let z : ◌≡◌ {A = ℕ} 0 1 = cc in absurd (omega arith)
+    go true p o q c r d s f t e = absurd (cc)
     go false p (some (answer zero ws)) q c r d s f t e = absurd (subst Refusing q (refusing store 0 es))
-    go false p (some (answer (suc k) ws)) q c r d s f t e = let z : ◌≡◌ {A = ℕ} 0 1 = cc in absurd (omega arith)
-    go false p none q true r d s f t e = let z : ◌≡◌ {A = ℕ} 0 1 = cc in absurd (omega arith)
-    go false p none q false r true s f t e = let z : ◌≡◌ {A = ℕ} 0 1 = cc in absurd (omega arith)
-    go false p none q false r false s true t e = let z : ◌≡◌ {A = ℕ} 0 1 = cc in absurd (omega arith)
+    go false p (some (answer (suc k) ws)) q c r d s f t e = absurd (cc)
+    go false p none q true r d s f t e = absurd (cc)
+    go false p none q false r true s f t e = absurd (cc)
+    go false p none q false r false s true t e = absurd (cc)
     go false p none q false r false s false t e = (
       record { few = ltb-false 2048 (length es) p; sound = q; fits = ltb-false room (needed store es) r; wide = ltb-false places (length es) s; fork = not_over (worst_of store es) t },
       cc,
@@ -94,13 +93,28 @@ module _ (es : List Entry) (store a ts : List ℕ) (t : Taken es store (length a
   E = map to_end (ends_of eqb (lines_of store es))
 
   -- what the first pass leaves
+  abbrev m : AllIn (planted a) T E (lines_in (growth 1 (planted a) []) (lines_of store es))
+  m = entered es store t.few t.sound a t.fits
+
   abbrev b : List ℕ
-  b = (entered es store t.few t.sound a t.fits).0
+  b = m.0
+
+  -- the ends of the lines and their targets
+  abbrev ends : List ℕ
+  ends = map target_end (ends_of eqb (lines_of store es))
+
+  long-ends : length E ≡ length es
+  long-ends = ends-length es store t.few t.sound
+
+  wide-ends : length E ≤ length ts
+  wide-ends = omega (arith, long-ends, t.wide)
+
+  few-ends : length E < 2 ^ 32
+  few-ends = omega (arith, long-ends, t.few)
 
   pub leaves_are : build_leaves es store a ts ≡ last_passes (size T) b ts E (map target_word es)
   unfolding build_leaves
   leaves_are =
-      let m = entered es store t.few t.sound a t.fits in
       rw (
         le-ltb 2048 (length es) t.few,
         t.sound,
@@ -110,19 +124,17 @@ module _ (es : List Entry) (store a ts : List ℕ) (t : Taken es store (length a
         within (worst_of store es) t.fork,
       ) refl
 
-  -- the areas hold the tree of the entries
+  -- areas hold the tree of the entries, with so many nodes and targets
+  abbrev Held : Filling → ℕ → ℕ → Type 0
+  Held f nodes targets = Holds (node_words_in f) nodes targets (target_words_in f) (lines_of store es)
+
+  -- those of the build do
   pub build_stands : Holds (node_words_in (build_leaves es store a ts)) (needed store es) (length es) (target_words_in (build_leaves es store a ts)) (lines_of store es)
   build_stands =
-      let m = entered es store t.few t.sound a t.fits in
-      let long-ends = ends-length es store t.few t.sound in
-      let h = stands (lines_of store es) b m.2 ts (omega (arith, long-ends, t.wide)) (omega (arith, long-ends, t.few)) in
-      subst (λ f. Holds (node_words_in f) (needed store es) (length es) (target_words_in f) (lines_of store es)) (sym leaves_are)
-      (subst (λ xs. Holds (node_words_in (last_passes (size T) b ts E xs)) (needed store es) (length es)
-      (target_words_in (last_passes (size T) b ts E xs)) (lines_of store es)) (end-targets es store t.few t.sound)
-      (subst (λ n. Holds (node_words_in (last_passes (size T) b ts E (map target_end (ends_of eqb (lines_of store es))))) n (length es)
-      (target_words_in (last_passes (size T) b ts E (map target_end (ends_of eqb (lines_of store es))))) (lines_of store es)) (needs es store t.few t.sound)
-      (subst (λ k. Holds (node_words_in (last_passes (size T) b ts E (map target_end (ends_of eqb (lines_of store es))))) (size T) k
-      (target_words_in (last_passes (size T) b ts E (map target_end (ends_of eqb (lines_of store es))))) (lines_of store es)) long-ends h)))
+      subst (λ f. Held f (needed store es) (length es)) (sym leaves_are)
+      (subst (λ xs. Held (last_passes (size T) b ts E xs) (needed store es) (length es)) (end-targets es store t.few t.sound)
+      (subst (λ n. Held (last_passes (size T) b ts E ends) n (length es)) (needs es store t.few t.sound)
+      (subst (λ k. Held (last_passes (size T) b ts E ends) (size T) k) long-ends (stands (lines_of store es) b m.2 ts wide-ends few-ends))))
 
   pub build-accepted : All Accepted (read_from store es)
   build-accepted = all_accepted es store t.few t.sound
@@ -130,7 +142,6 @@ module _ (es : List Entry) (store a ts : List ℕ) (t : Taken es store (length a
   -- the node words behind are left
   pub nodes-left : (x : ℕ) → needed store es * 16 ≤ x → get_or (node_words_in (build_leaves es store a ts)) x 0 ≡ get_or a x 0
   nodes-left x h =
-      let m = entered es store t.few t.sound a t.fits in
       let n = needs es store t.few t.sound in
       let up : size T * 16 ≤ x = omega arith in
       let up16 : 16 ≤ x = omega (arith, size_pos T) in
@@ -143,11 +154,9 @@ module _ (es : List Entry) (store a ts : List ℕ) (t : Taken es store (length a
   -- and so are the target words behind
   pub places-left : (p : ℕ) → length es ≤ p → get_or (target_words_in (build_leaves es store a ts)) p 0 ≡ get_or ts p 0
   places-left p h =
-      let m = entered es store t.few t.sound a t.fits in
-      let long-ends = ends-length es store t.few t.sound in
       ap (λ f. get_or (target_words_in f) p 0) leaves_are
       ∙ ap (λ xs. get_or (target_words_in (last_passes (size T) b ts E xs)) p 0) (sym (end-targets es store t.few t.sound))
-      ∙ targets-kept (lines_of store es) b m.2 ts (omega (arith, long-ends, t.wide)) (omega (arith, long-ends, t.few)) p (omega (arith, long-ends))
+      ∙ targets-kept (lines_of store es) b m.2 ts wide-ends few-ends p (omega (arith, long-ends))
 
 -- a refused build leaves the targets
 pub refused-targets : (es : List Entry) (store a ts : List ℕ) (generation k : ℕ) (vs : List ℕ) → build_says es store (length a / 16) (length ts) generation ≡ answer (suc k) vs
@@ -156,8 +165,7 @@ unfolding build_says build_leaves
 refused-targets es store a ts generation k vs refused = go (ltb 2048 (length es)) refl (bad_entries store 0 es) refl (ltb (length a) 16) refl refused
   where
     go : (b : Bool) → ltb 2048 (length es) ≡ b → (o : Option Answer) → bad_entries store 0 es ≡ o → (c : Bool) → ltb (length a) 16 ≡ c
-        → pick b (answer 10 []) (unless o (pick (ltb (length a / 16) (needed store es)) (answer 14 (needed store es ∷ [])) (pick (ltb (length ts) (length es)) (answer 15 [])
-        (pick (over_limit (worst_of store es)) (answer 16 (worst_of store es ∷ 1024 ∷ [])) (answer 0 (needed store es ∷ worst_of store es ∷ generation ∷ [])))))) ≡ answer (suc k) vs
+        → pick b (answer 10 []) (unless o (says_of es store generation (ltb (length a / 16) (needed store es)) (ltb (length ts) (length es)) (over_limit (worst_of store es)))) ≡ answer (suc k) vs
         → target_words_in (pick b (filling a ts) (started es store a ts o)) ≡ ts
     go true p o q c r e = refl
     go false p (some x) q c r e = refl

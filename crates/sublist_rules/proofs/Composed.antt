@@ -3,7 +3,7 @@ use Prim.Native.Nat.{ℕ, suc, ◌+◌, ◌-◌, ◌*◌, ◌/◌, ◌<◌, ◌�
 use native.Mathlib.Omega.{arith}
 use mathlib.Core.Path.{◌≡◌, refl, sym, ap, ◌∙◌}
 use mathlib.Core.Bool.{Bool, true, false}
-use mathlib.Core.Logic.{inl, inr}
+use mathlib.Core.Logic.{⊎_elim}
 use mathlib.Core.List.{List, [], ◌∷◌, map}
 use mathlib.Core.Option.{Option, none, some}
 use lib.Dec.{eqb, ltb}
@@ -36,6 +36,14 @@ use Rattle.sublist_rules.specs.Core.{root_worst, all_in, answer_by, left_by, if_
 use Rattle.sublist_rules.proofs.AcceptedEntries.{Sound, sound-entries}
 use Rattle.sublist_rules.proofs.Entering.{to_end, Entered, AllIn, Outcome, enters}
 use Rattle.sublist_rules.proofs.Standing.{target_end, all_targets, entered_root, worst-found}
+
+-- what a build says of entries of which none is refused: whether there are too few nodes, too few targets, too many paths
+abbrev pub says_of : List Entry → List ℕ → ℕ → Bool → Bool → Bool → Answer
+says_of es store generation nodes targets paths =
+    pick nodes (answer 14 (needed store es ∷ []))
+    (pick targets (answer 15 [])
+    (pick paths (answer 16 (worst_of store es ∷ 1024 ∷ []))
+    (answer 0 (needed store es ∷ worst_of store es ∷ generation ∷ []))))
 
 -- sound entries are accepted patterns
 accepted_all : (store : List ℕ) (es : List Entry) → All (Sound store) es → All Accepted (read_from store es)
@@ -127,11 +135,7 @@ module _ (es : List Entry) (store : List ℕ) (few : length es ≤ 2048) (sound 
     -- what the first pass leaves
     pub entered : AllIn (planted a) T E (lines_in (growth 1 (planted a) []) ls)
     unfolding built ends_of
-    entered = go (first_pass a long)
-      where
-        go : Outcome (planted a) root [] ls (lines_in (growth 1 (planted a) []) ls) → AllIn (planted a) T E (lines_in (growth 1 (planted a) []) ls)
-        go (inl w) = w.1
-        go (inr w) = absurd (w.0 (omega (arith, needs, length-planted a), small))
+    entered = ⊎_elim (λ w. w.1) (λ w. absurd (w.0 (omega (arith, needs, length-planted a), small))) (first_pass a long)
 
     pub all_in_lem : all_in es store a ≡ growth (size T) entered.0 E
     all_in_lem = rw (le-ltb (length a) 16 long) entered.1
@@ -146,25 +150,15 @@ module _ (es : List Entry) (store : List ℕ) (few : length es ≤ 2048) (sound 
     where
       go : (c : Bool) → ltb (length a) 16 ≡ c → (b : List ℕ) × (pick c (stopped a) (lines_in (growth 1 (planted a) []) ls) ≡ stopped b)
       go true e = (a, refl)
-      go false e = go' (first_pass a (ltb-false (length a) 16 e))
-        where
-          go' : Outcome (planted a) root [] ls (lines_in (growth 1 (planted a) []) ls) → (b : List ℕ) × (lines_in (growth 1 (planted a) []) ls ≡ stopped b)
-          go' (inl w) = absurd (omega (arith, w.0.0, needs, length-planted a))
-          go' (inr w) = (w.1.0, w.1.1)
+      go false e = ⊎_elim (λ w. absurd (omega (arith, w.0.0, needs, length-planted a))) (λ w. (w.1.0, w.1.1)) (first_pass a (ltb-false (length a) 16 e))
 
   -- the answer
   says-sound : (a : List ℕ) (places generation : ℕ) → answer_by es (needed store es) places generation (all_in es store a)
-      ≡ pick (ltb (length a / 16) (needed store es)) (answer 14 (needed store es ∷ []))
-      (pick (ltb places (length es)) (answer 15 [])
-      (pick (over_limit (worst_of store es)) (answer 16 (worst_of store es ∷ 1024 ∷ []))
-      (answer 0 (needed store es ∷ worst_of store es ∷ generation ∷ []))))
+      ≡ says_of es store generation (ltb (length a / 16) (needed store es)) (ltb places (length es)) (over_limit (worst_of store es))
   says-sound a places generation = go (ltb (length a / 16) (needed store es)) refl
     where
       go : (c : Bool) → ltb (length a / 16) (needed store es) ≡ c → answer_by es (needed store es) places generation (all_in es store a)
-          ≡ pick c (answer 14 (needed store es ∷ []))
-          (pick (ltb places (length es)) (answer 15 [])
-          (pick (over_limit (worst_of store es)) (answer 16 (worst_of store es ∷ 1024 ∷ []))
-          (answer 0 (needed store es ∷ worst_of store es ∷ generation ∷ []))))
+          ≡ says_of es store generation c (ltb places (length es)) (over_limit (worst_of store es))
       go true e = ap (answer_by es (needed store es) places generation) (no_room a (ltb-true (length a / 16) (needed store es) e)).1
       go false e =
           let room = ltb-false (length a / 16) (needed store es) e in
@@ -182,16 +176,14 @@ module _ (es : List Entry) (store : List ℕ) (few : length es ≤ 2048) (sound 
       go : (c : Bool) → ltb (length a) 16 ≡ c → left_by es ts (pick c (stopped a) (lines_in (growth 1 (planted a) []) ls))
           ≡ pick c (filling a ts) (finished es store ts (lines_in (growth 1 (planted a) []) ls))
       go true e = refl
-      go false e = go' (first_pass a (ltb-false (length a) 16 e))
-        where
-          go' : Outcome (planted a) root [] ls (lines_in (growth 1 (planted a) []) ls)
-              → left_by es ts (lines_in (growth 1 (planted a) []) ls) ≡ finished es store ts (lines_in (growth 1 (planted a) []) ls)
-          go' (inl w) =
-              let m = w.1 in
-              ap (left_by es ts) m.1
-              ∙ ap (λ v. pick (ltb (length ts) (length es)) (filling m.0 ts) (pick (over_limit v) (filling (settled m.0 (size T - 1)) ts) (last_passes (size T) m.0 ts E (map target_word es)))) (second_pass m.0 m.2)
-              ∙ sym (ap (finished es store ts) m.1)
-          go' (inr w) = ap (left_by es ts) w.1.1 ∙ sym (ap (finished es store ts) w.1.1)
+      go false e =
+          ⊎_elim
+          (λ w. let m = w.1 in
+          ap (left_by es ts) m.1
+          ∙ ap (λ v. pick (ltb (length ts) (length es)) (filling m.0 ts) (pick (over_limit v) (filling (settled m.0 (size T - 1)) ts) (last_passes (size T) m.0 ts E (map target_word es)))) (second_pass m.0 m.2)
+          ∙ sym (ap (finished es store ts) m.1))
+          (λ w. ap (left_by es ts) w.1.1 ∙ sym (ap (finished es store ts) w.1.1))
+          (first_pass a (ltb-false (length a) 16 e))
 
 -- the core's answer is what build says
 pub core_says : (es : List Entry) (store a : List ℕ) (places generation : ℕ) → built_by es store a places generation ≡ build_says es store (length a / 16) places generation
@@ -200,11 +192,7 @@ core_says es store a places generation = go (ltb 2048 (length es)) refl (bad_ent
   where
     go : (b : Bool) → ltb 2048 (length es) ≡ b → (o : Option Answer) → bad_entries store 0 es ≡ o
         → unless (pick b (some (answer 10 [])) o) (answer_by es (needed store es) places generation (all_in es store a))
-        ≡ pick b (answer 10 []) (unless o
-        (pick (ltb (length a / 16) (needed store es)) (answer 14 (needed store es ∷ []))
-        (pick (ltb places (length es)) (answer 15 [])
-        (pick (over_limit (worst_of store es)) (answer 16 (worst_of store es ∷ 1024 ∷ []))
-        (answer 0 (needed store es ∷ worst_of store es ∷ generation ∷ []))))))
+        ≡ pick b (answer 10 []) (unless o (says_of es store generation (ltb (length a / 16) (needed store es)) (ltb places (length es)) (over_limit (worst_of store es))))
     go true e o q = refl
     go false e (some r) q = refl
     go false e none q = says-sound es store (ltb-false 2048 (length es) e) q a places generation

@@ -26,7 +26,7 @@ use Rattle.sublist_area_rules.specs.Growing.{placed_at, grown}
 use Rattle.sublist_area_rules.proofs.Grown.{LeftWord, Fits}
 use Rattle.sublist_area_rules.proofs.Hashes.{Rep, Grew, RunEnds, rep_store, grown_all, ins_more}
 use Rattle.sublist_rules.specs.Passes.{End, end, Growth, growth, stopped, start_word, count_word, counted, joined, line_in, lines_in}
-use Rattle.sublist_rules.proofs.Filling.{node_of, end_is_lem, hit, count_ends, end_is, end_own, length-counted, counted_own, counted_other, counted-word}
+use Rattle.sublist_rules.proofs.Filling.{node_of, end_is_lem, hit, count_ends, end_is, end_own, length-counted, counted_start, counted_own, counted_other}
 
 abbrev pub to_end : LineEnd → End
 to_end (line_end j tail target) = end j tail
@@ -75,10 +75,6 @@ left-start : (b : Bool) → LeftWord (start_word b)
 left-start true = inl (omega arith, omega arith)
 left-start false = inl (omega arith, omega arith)
 
-start-kept : (a : List ℕ) (j : ℕ) (tail : Bool) (i : ℕ) (b : Bool) → word (counted a j tail) i (start_word b) ≡ word a i (start_word b)
-start-kept a j tail i true = counted-word a j tail i 6 (omega arith) (λ e. omega arith) (λ e. omega arith)
-start-kept a j tail i false = counted-word a j tail i 4 (omega arith) (λ e. omega arith) (λ e. omega arith)
-
 rep_counted : (a : List ℕ) (t : Trie ℕ) (j : ℕ) (tail : Bool) → Rep a t → Rep (counted a j tail) t
 unfolding counted
 rep_counted a t j true r = rep_store a t j 7 ((word a j 7 + 1) % 4294967296) (omega arith) (omega arith) r
@@ -111,7 +107,7 @@ module _ (a : List ℕ) (t : Trie ℕ) (es : List End) (ok : Entered a t es) (b 
     rep = rep_counted b u j tail grew.rep;
     inside = all_snoc (λ e. node_of e < size u) es (end j tail) (all_more (size t) (size u) es grew.more ok.inside) inside;
     counts = counts_it;
-    starts = λ i c l. start-kept b j tail i c ∙ starts_it i c l (dec_lt i (size t));
+    starts = λ i c l. counted_start b j tail i c ∙ starts_it i c l (dec_lt i (size t));
   }
     where
       starts_it : (i : ℕ) (c : Bool) → i < size u → Dec (i < size t) → word b i (start_word c) ≡ 0
@@ -125,7 +121,7 @@ AllIn a t es g = (b : List ℕ) × (g ≡ growth (size t) b es) × Entered b t e
 abbrev pub Stopped : List ℕ → Growth → Type 0
 Stopped a g = (b : List ℕ) × (g ≡ stopped b) × (length b ≡ length a)
 
-stays : (a : List ℕ) (ls : List (Line ℕ)) → lines_in (stopped a) ls ≡ stopped a
+pub stays : (a : List ℕ) (ls : List (Line ℕ)) → lines_in (stopped a) ls ≡ stopped a
 unfolding lines_in line_in
 stays a [] = refl
 stays a (line ks tail x ∷ ls) = stays a ls

@@ -42,7 +42,7 @@ end_is j tail i b e = go (eqb j i) refl e
   where
     go : (c : Bool) → eqb j i ≡ c → and c (beq tail b) ≡ true → (j ≡ i) × (tail ≡ b)
     go true q e = (eqb-true j i q, (booleans_Decides tail b).0 e)
-    go false q e = let z : ◌≡◌ {A = ℕ} 0 1 = cc in absurd (omega arith)
+    go false q e = absurd (cc)
 
 pub end_own : (j : ℕ) (tail : Bool) → end_is_lem (end j tail) j tail ≡ true
 end_own j tail = rw (eq-eqb j j refl, (booleans_Decides tail tail).1 refl) refl
@@ -72,7 +72,7 @@ pub length-counted : (a : List ℕ) (j : ℕ) (tail : Bool) → length (counted 
 unfolding counted
 length-counted a j tail = length-set a (j * 16 + count_word tail) ((word a j (count_word tail) + 1) % 4294967296)
 
-counted_start : (a : List ℕ) (j : ℕ) (tail : Bool) (i : ℕ) (b : Bool) → word (counted a j tail) i (start_word b) ≡ word a i (start_word b)
+pub counted_start : (a : List ℕ) (j : ℕ) (tail : Bool) (i : ℕ) (b : Bool) → word (counted a j tail) i (start_word b) ≡ word a i (start_word b)
 unfolding counted
 counted_start a j tail i b = word_field a j (count_word tail) ((word a j (count_word tail) + 1) % 4294967296) i (start_word b) (count_small tail) (start_small b) (count-start tail b)
 

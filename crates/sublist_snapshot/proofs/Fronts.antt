@@ -18,7 +18,7 @@ use Rattle.sublist_snapshot.specs.Snapshot.{nodes_in, targets_in, with_generatio
 
 -- a refusal gains no generation
 stays : (g : Generation) (y : Answer) (out : List ℕ) → ((after : Answer) → y ≡ when_accepted y after) → with_generation g (outcome y out) ≡ outcome y out
-stays g (answer zero values) out h = let e = h (answer 1 []) in let z : ◌≡◌ {A = ℕ} 0 1 = cc in absurd (omega arith)
+stays g (answer zero values) out h = let e = h (answer 1 []) in absurd (cc)
 stays g (answer (suc k) values) out h = refl
 
 refusal_stays : (g : Generation) (e : MatchError) (out : List ℕ) → with_generation g (outcome (match_refusal e) out) ≡ outcome (match_refusal e) out
@@ -49,13 +49,17 @@ parsed_match s area subject out values e =
     (parsed-same s.nodes s.targets (nodes_in s.nodes area) (targets_in s.nodes s.targets area) subject out values e)
 
 -- a match by the subject's parse
-module _ (s : Snapshot) (area subject out : List ℕ) (text : Result ℕ SubjectError) (p : parsed text ≡ grammar false subject) where
-  pub match_accepted : (n : ℕ) → text ≡ Ok n → match_parsed_in s area subject out ≡ match_in s area subject out
-  match_accepted n t = parsed_match s area subject out (n ∷ []) (sym p ∙ ap parsed t)
+pub match_accepted : (s : Snapshot) (area subject out : List ℕ) (a : Answer) (left : List ℕ) → outcome a left ≡ match_parsed_in s area subject out
+    → (n : ℕ) → answer 0 (n ∷ []) ≡ grammar false subject → outcome a left ≡ match_in s area subject out
+match_accepted s area subject out a left e n p = e ∙ parsed_match s area subject out (n ∷ []) (sym p)
 
+module _ (s : Snapshot) (area subject out : List ℕ) (text : Result ℕ SubjectError) (p : parsed text ≡ grammar false subject) where
   pub match_refused : (e : SubjectError) → text ≡ Err e → outcome (refusal e) out ≡ match_in s area subject out
   unfolding match_in
   match_refused e t =
       sym (refusal_stays s.generation (Invalid e) out)
       ∙ ap (with_generation s.generation)
       (table_refused s.nodes s.targets (nodes_in s.nodes area) (targets_in s.nodes s.targets area) subject out text p e t)
+
+-- each way of a match
+pub ruleset ways = (match_accepted, match_refused)

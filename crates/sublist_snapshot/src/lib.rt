@@ -35,6 +35,13 @@ pub struct Snapshot {
     pub next: Generation,
 }
 
+// The standing table: its snapshot, and the area that has its words.
+#[derive(Clone, Copy)]
+pub struct StandingTable<'a> {
+    pub snapshot: Snapshot,
+    pub area: &'a [u32],
+}
+
 // Why a store or a first table is refused.
 #[derive(Clone, Copy)]
 pub enum StoreError {
@@ -173,66 +180,61 @@ impl Snapshot {
             },
         }
     }
+}
 
-    // The standing table with its words in the area, or with what the area has of them.
-    fn table_in<'a>(self, area: &'a [u32]) -> Table<'a>
-        ensures { (result.nodes ≡ self.nodes)
-            × (result.targets ≡ self.targets)
-            × (result.node_words.now ≡ nodes_in self.nodes area.now)
-            × (result.target_words.now ≡ targets_in self.nodes self.targets area.now) }
+impl<'a> StandingTable<'a> {
+    // The table with its words in the area, or with what the area has of them.
+    fn table(&self) -> Table<'a>
+        ensures { (result.nodes ≡ self.now.snapshot.nodes)
+            × (result.targets ≡ self.now.snapshot.targets)
+            × (result.node_words.now ≡ nodes_in self.now.snapshot.nodes self.now.area.now)
+            × (result.target_words.now
+            ≡ targets_in self.now.snapshot.nodes self.now.snapshot.targets self.now.area.now) }
     {
-        let front = self.nodes.saturating_mul(NODE_WORDS).min(area.len());
-        let (node_words, rest) = area.split_at(front);
+        let Snapshot { nodes, targets, .. } = self.snapshot;
+        let front = nodes.saturating_mul(NODE_WORDS).min(self.area.len());
+        let (node_words, rest) = self.area.split_at(front);
         Table {
-            nodes: self.nodes,
-            targets: self.targets,
+            nodes,
+            targets,
             node_words,
-            target_words: &rest[..self.targets.min(rest.len())],
+            target_words: &rest[..targets.min(rest.len())],
         }
     }
 
-    // 19 on the counts: there is a node, and the standing table is no longer than the area.
-    // Kept: `counts_fit` of `table_in` proves, and takes 4.8 ns where this takes 2.3 (as Rust), at each hit of a cache.
-    pub fn stands_in(self, area: &[u32]) -> bool
-        ensures { result ≡ stands_in self area.now }
+    // 19 on the counts: there is a node, and the table is no longer than the area.
+    // Kept: `counts_fit` of `table` proves, and takes 4.8 ns where this takes 2.3 (as Rust), at each hit of a cache.
+    pub fn stands(&self) -> bool
+        ensures { result ≡ stands_in self.now.snapshot self.now.area.now }
     {
-        self.nodes != 0
-            && self.nodes <= area.len() / NODE_WORDS
-            && self.targets <= area.len() - self.nodes * NODE_WORDS
+        let Snapshot { nodes, targets, .. } = self.snapshot;
+        nodes != 0
+            && nodes <= self.area.len() / NODE_WORDS
+            && targets <= self.area.len() - nodes * NODE_WORDS
     }
 
-    // The list of the targets that a subject matches in the standing table, written over the output's first places:
+    // The list of the targets that a subject matches in the table, written over the output's first places:
     // 1 to 9, then 19, then 21.
-    #[tactic(auto, using(crate::proofs::Fronts::match_refused))]
-    pub fn match_into(
-        self,
-        area: &[u32],
-        subject: &[u8],
-        out: &mut [u32],
-    ) -> Result<SnapshotMatch, MatchError>
+    #[tactic(auto, using(crate::proofs::Fronts::ways))]
+    pub fn match_into(&self, subject: &[u8], out: &mut [u32]) -> Result<SnapshotMatch, MatchError>
         ensures { outcome (snapshot_answer result) out.new
-            ≡ match_in self area.now subject.now out.old }
+            ≡ match_in self.now.snapshot self.now.area.now subject.now out.old }
     {
         subject::parse_literal(subject)?;
-        self.match_parsed(area, subject, out)
+        self.match_parsed(subject, out)
     }
 
     // The match of a subject that the caller has parsed: 1 for a text that no parse accepts, then 19, then 21.
     #[tactic(auto, using(crate::proofs::Fronts::through_found, crate::proofs::Fronts::through_refused))]
-    pub fn match_parsed(
-        self,
-        area: &[u32],
-        subject: &[u8],
-        out: &mut [u32],
-    ) -> Result<SnapshotMatch, MatchError>
+    pub fn match_parsed(&self, subject: &[u8], out: &mut [u32]) -> Result<SnapshotMatch, MatchError>
         ensures { outcome (snapshot_answer result) out.new
-            ≡ match_parsed_in self area.now subject.now out.old }
+            ≡ match_parsed_in self.now.snapshot self.now.area.now subject.now out.old }
     {
-        let found = sublist_walk::match_parsed(&self.table_in(area), subject, out)?;
+        let found = sublist_walk::match_parsed(&self.table(), subject, out)?;
         Ok(SnapshotMatch {
             count: found.count,
             peak: found.peak,
-            generation: self.generation,
+            generation: self.snapshot.generation,
         })
     }
 }

@@ -11,7 +11,8 @@ use Rattle.sublist_tree.specs.Lists.{All}
 use Rattle.sublist_tree.specs.Tree.{Key, star, lit, Line, present, below, step, peak, left_at}
 use Rattle.sublist_trie.proofs.Trie.{Trie, size, run, parent_of, child, Good, keep, front}
 use Rattle.sublist_trie.proofs.Runs.{size_pos, snoc_inj, run_root, child_less, child_parent, run_child}
-use Rattle.sublist_tree.proofs.Members.{Distinct, All-into}
+use Rattle.sublist_tree.proofs.Bytes.{All-map}
+use Rattle.sublist_tree.proofs.Members.{Distinct}
 use Rattle.sublist_trie.proofs.For.{For, left_of, child_none, child_some}
 
 -- all are nodes of the tree
@@ -100,7 +101,7 @@ module _ {K : Type 0} (eq : K → K → Bool) where
       where
         others : (k : Key K) → (child eq t i k ≡ 0 → ⊥) → All (λ j. child eq t i k ≡ j → ⊥) (front eq t h fr)
         others k ne =
-            All-into (λ j. i ≡ parent_of t j → ⊥) (λ j. child eq t i k ≡ j → ⊥) (front eq t h fr)
+            All-map (λ j. i ≡ parent_of t j → ⊥) (λ j. child eq t i k ≡ j → ⊥) (front eq t h fr)
             (λ j f e. f (sym (child_parent eq sound whole t i k g ne).1 ∙ ap (parent_of t) e))
             (front_parents (λ p. i ≡ p → ⊥) t h fr g d.0)
 

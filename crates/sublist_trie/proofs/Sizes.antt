@@ -5,17 +5,18 @@ use native.Mathlib.Decide.{ℕ_discrete}
 use mathlib.Core.Path.{◌≡◌, refl, sym, ◌∙◌, ap, subst}
 use mathlib.Core.Logic.{◌⊎◌, inl, inr}
 use mathlib.Core.Bool.{Bool, true}
-use mathlib.Core.List.{List, [], ◌∷◌, ◌++◌, map}
+use mathlib.Core.List.{List, [], ◌∷◌, ◌++◌, map, cons-ne-nil}
 use lib.ListN.{length}
 use Rattle.sublist_tree.specs.Lists.{prefixes}
 use Rattle.sublist_tree.specs.Tree.{Key, Line, line, count, run_is, left_at}
 use Rattle.sublist_tree.specs.Nodes.{runs, nodes}
 use Rattle.sublist_tree.proofs.Fork.{Within}
+use Rattle.sublist_tree.proofs.Order.{key_is-same}
 use Rattle.sublist_tree.proofs.Counting.{run_is-sound, count-nodes}
 use Rattle.sublist_trie.proofs.Trie.{Trie, size, run, Good}
 use Rattle.sublist_tree.proofs.Members.{In, Distinct, All-in, in_left, in_right, in_append, distinct_in, in_distinct, distinct_once, as_many}
-use Rattle.sublist_trie.proofs.Runs.{key_is-same, size_pos, run_root, run_inj}
-use Rattle.sublist_trie.proofs.Left.{cons_nil, nil_left, nil_right, some_part, left_cons, left_none, left_own, left-begins}
+use Rattle.sublist_trie.proofs.Runs.{size_pos, run_root, run_inj}
+use Rattle.sublist_trie.proofs.Left.{nil_left, nil_right, some_part, left_cons, left_none, left_own, left-begins}
 use Rattle.sublist_trie.proofs.For.{At, For}
 
 in_map : {A B : Type 0} (f : A → B) (x : A) (xs : List A) → In x xs → In (f x) (map f xs)
@@ -70,7 +71,7 @@ module _ {K : Type 0} where
 module _ {K : Type 0} (eq : K → K → Bool) (sound : (h g : K) → eq h g ≡ true → h ≡ g) (whole : (h : K) → eq h h ≡ true) where
   run_is-same : (ks : List (Key K)) → run_is eq ks ks ≡ true
   run_is-same [] = refl
-  run_is-same (k ∷ ks) = rw (key_is-same eq sound whole k) (run_is-same ks)
+  run_is-same (k ∷ ks) = rw (key_is-same eq whole k) (run_is-same ks)
 
   -- a run begins some line where a line is left below it
   runs-left : (ls : List (Line K)) (r : List (Key K)) → In r (runs ls) → left_at eq ls r ≡ [] → ⊥
@@ -83,7 +84,7 @@ module _ {K : Type 0} (eq : K → K → Bool) (sound : (h g : K) → eq h g ≡ 
       go : In r (prefixes ks) ⊎ In r (runs ls) → (In r (runs ls) → left_at eq ls r ≡ [] → ⊥) → ⊥
       go (inl n) ih =
           let w = prefixes_in r ks n in
-          cons_nil (line w.0 b x) [] (sym (left_own eq sound whole r w.0 b x) ∙ nil_left _ (left_at eq ls r) (rw w.1 at both))
+          cons-ne-nil (line w.0 b x) [] (sym (left_own eq sound whole r w.0 b x) ∙ nil_left _ (left_at eq ls r) (rw w.1 at both))
       go (inr n) ih = ih n (nil_right (left_at eq (line ks b x ∷ []) r) (left_at eq ls r) both)
 
   left-runs : (ls : List (Line K)) (r : List (Key K)) → (left_at eq ls r ≡ [] → ⊥) → In r (runs ls)

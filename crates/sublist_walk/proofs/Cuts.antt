@@ -2,6 +2,7 @@
 use Rattle.std.proofs.Common.{◌≡◌, ℕ, ◌+◌, ◌≤◌, Bool, true, false, leb, List, [], ◌∷◌, ◌++◌, length, take, refl, ap, ◌∙◌, length-take-le, leb-true}
 use Rattle.subject_rules.specs.Choice.{pick}
 use Rattle.sublist_area_rules.specs.Words.{word}
+use Rattle.sublist_walk_rules.proofs.Narrow.{arrived-any, listed-any}
 use Rattle.sublist_walk_rules.proofs.Parts.{part-take}
 use Rattle.sublist_walk_rules.specs.declared.Failure.TheVariants.{Damaged}
 use Rattle.sublist_walk_rules.specs.Walk.{part, Level, level, broken, Walk, at, stuck, root, collect, pushes, children, visit, visits, arrived, on_token, on_tokens, exact, listed, ended, walk_over}
@@ -24,14 +25,9 @@ module _ (k : ℕ) (a : List ℕ) (n m : ℕ) (ts : List ℕ) where
   visits_cut h s (i ∷ is) =
       ap (λ l. visits k a n m (take m ts) h (pushes k l (children a n h i)) is) (collect_cut 6 i s) ∙ visits_cut h (visit k a n m ts h s i) is
 
-  arrived_cut : (peak : ℕ) (s : Level) → arrived k a n m (take m ts) peak s ≡ arrived k a n m ts peak s
-  unfolding arrived
-  arrived_cut peak (level next list) = refl
-  arrived_cut peak (broken why) = refl
-
   token_cut : (w : Walk) (h : ℕ) → on_token k a n m (take m ts) w h ≡ on_token k a n m ts w h
   unfolding on_token
-  token_cut (at front list peak) h = ap (arrived k a n m (take m ts) peak) (visits_cut h (level [] list) front) ∙ arrived_cut peak (visits k a n m ts h (level [] list) front)
+  token_cut (at front list peak) h = ap (arrived k a n m (take m ts) peak) (visits_cut h (level [] list) front) ∙ arrived-any k k a n m (take m ts) ts peak (visits k a n m ts h (level [] list) front)
   token_cut (stuck why) h = refl
 
   tokens_cut : (w : Walk) (hs : List ℕ) → on_tokens k a n m (take m ts) w hs ≡ on_tokens k a n m ts w hs
@@ -44,14 +40,9 @@ module _ (k : ℕ) (a : List ℕ) (n m : ℕ) (ts : List ℕ) where
   exact_cut s [] = refl
   exact_cut s (i ∷ is) = ap (λ l. exact k a n m (take m ts) l is) (collect_cut 4 i s) ∙ exact_cut (collect a m ts 4 i s) is
 
-  listed_cut : (peak : ℕ) (s : Level) → listed k a n m (take m ts) peak s ≡ listed k a n m ts peak s
-  unfolding listed
-  listed_cut peak (level next list) = refl
-  listed_cut peak (broken why) = refl
-
   ended_cut : (w : Walk) → ended k a n m (take m ts) w ≡ ended k a n m ts w
   unfolding ended
-  ended_cut (at front list peak) = ap (listed k a n m (take m ts) peak) (exact_cut (level [] list) front) ∙ listed_cut peak (exact k a n m ts (level [] list) front)
+  ended_cut (at front list peak) = ap (listed k a n m (take m ts) peak) (exact_cut (level [] list) front) ∙ listed-any k k a n m (take m ts) ts peak (exact k a n m ts (level [] list) front)
   ended_cut (stuck why) = refl
 
   pub walk_cut : (hs : List ℕ) → m ≤ length ts → walk_over k a n (length (take m ts)) (take m ts) hs ≡ walk_over k a n m ts hs

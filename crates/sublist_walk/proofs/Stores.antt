@@ -1,12 +1,16 @@
 -- Runs of stores from the first place of a list on, as far as it goes.
 use Rattle.std.proofs.Common.{◌≡◌, ℕ, zero, suc, ◌+◌, ◌-◌, ◌<◌, ◌≤◌, min, List, [], ◌∷◌, ◌++◌, length, get_or, take, drop, refl, sym, ap, ◌∙◌, ⊎_elim, append-nil, zero-add, take_all, length-take, length-drop, drop_of_length-le, arith}
 use lib.ListN.{set}
-use lib.Seq.{sets}
-use borrow.Rule.Slice.PartMut.{put_mid}
+use lib.Seq.{sets, take-suc-set}
+use borrow.Rule.Slice.PartMut.{post_of}
 use Rattle.std.proofs.lemmas.Bool.{cases_lt}
 use Rattle.std.proofs.lemmas.List.Edits.{paste_more}
 use Rattle.std.proofs.lemmas.Slice.{between_to_end}
 use Rattle.subject_rules.proofs.Stores.{sets-out, sets-append}
+
+-- the first element alone
+pub first_set : (l : List ℕ) (x : ℕ) → 0 < length l → take 1 (set l 0 x) ≡ x ∷ []
+first_set l x h = take-suc-set l 0 x h
 
 -- behind the first element
 sets_cons : (x : ℕ) (l : List ℕ) (at : ℕ) (vs : List ℕ) → sets (x ∷ l) (suc at) vs ≡ x ∷ sets l at vs
@@ -47,9 +51,12 @@ all_copied n i words out e f g =
     let d : i ≡ n = omega (arith, length-take {A = ℕ}) in
     rw (d, take_all n (take n words) (omega (arith, length-take {A = ℕ}))) (front_stored n words out e)
 
+-- a copy's turn and its end
+pub ruleset copies = (copied_more, all_copied, length-take)
+
 -- a run us from the first place on, and then a run vs into what is left behind it, which was lent for that
 pub behind_stored : (l us vs now after : List ℕ) (r : ℕ) → r ≡ min (length now) (length us) → now ≡ sets l 0 us → after ≡ sets (take (length now - r) (drop r now)) 0 vs
-    → put_mid r (length now - r) now after ≡ sets l 0 (us ++ vs)
+    → take r now ++ (after ++ post_of r (length now - r) now) ≡ sets l 0 (us ++ vs)
 behind_stored l us vs now after r e f g =
     let none : drop (length now - r) (drop r now) ≡ [] = drop_of_length-le (drop r now) (omega (arith, length-drop r now)) in
     ap (λ xs. take r now ++ (after ++ xs)) none ∙ ap (λ xs. take r now ++ xs) (append-nil after ∙ g ∙ ap (λ xs. sets xs 0 vs) (between_to_end now r (length now) (omega arith)))

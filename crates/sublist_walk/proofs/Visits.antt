@@ -66,7 +66,7 @@ module _ (a : List ℕ) (m : ℕ) (ts : List ℕ) (f i : ℕ) where
 
       go : (t : Bool) → pick t (level [] ([] ++ new)) (broken failure.Damaged) ≡ broken why
           → pick t (level next (list ++ new)) (broken failure.Damaged) ≡ broken why
-      go true w = let z : ◌≡◌ {A = ℕ} 0 1 = cc in absurd (omega arith)
+      go true w = cc
       go false w = w
 
   collect-new : (next list new : List ℕ) → collect a m ts f i (level [] []) ≡ level [] new → collect a m ts f i (level next list) ≡ level next (list ++ new)
@@ -79,7 +79,7 @@ module _ (a : List ℕ) (m : ℕ) (ts : List ℕ) (f i : ℕ) where
       go : (t : Bool) → pick t (level [] ([] ++ now)) (broken failure.Damaged) ≡ level [] new
           → pick t (level next (list ++ now)) (broken failure.Damaged) ≡ level next (list ++ new)
       go true w = cc
-      go false w = let z : ◌≡◌ {A = ℕ} 0 1 = cc in absurd (omega arith)
+      go false w = cc
 
   collect_behind : (next list : List ℕ) → collect a m ts f i (level next list) ≡ behind list (collect a m ts f i (level next []))
   unfolding collect behind
@@ -201,23 +201,66 @@ module _ (step : Level → ℕ → Level) (steps : Level → List ℕ → Level)
     all_on next new e = steps-with [] list is ∙ rw e
 
   -- the first i nodes of a frontier give a level; then the next one
-  module _ (l next : List ℕ) (count i : ℕ) (out now : List ℕ) (w : Added (steps (level [] []) (take i l)) next count i out now) (q : i < length l) where
-    first-behind : (js : List ℕ) → steps (level [] []) (take i l ++ get_or l i 0 ∷ js) ≡ steps (behind w.list (step (level next []) (get_or l i 0))) js
+  module _ (l next list : List ℕ) (i : ℕ) (w : steps (level [] []) (take i l) ≡ level next list) (q : i < length l) where
+    first-behind : (js : List ℕ) → steps (level [] []) (take i l ++ get_or l i 0 ∷ js) ≡ steps (behind list (step (level next []) (get_or l i 0))) js
     unfolding behind
     first-behind js =
-        steps-append (level [] []) (take i l) (get_or l i 0 ∷ js) ∙ ap (λ s. steps s (get_or l i 0 ∷ js)) w.is
-        ∙ t.more (level next w.list) (get_or l i 0) js ∙ ap (λ s. steps s js) (rw append-nil at (t.passes w.list (level next []) (get_or l i 0)))
+        steps-append (level [] []) (take i l) (get_or l i 0 ∷ js) ∙ ap (λ s. steps s (get_or l i 0 ∷ js)) w
+        ∙ t.more (level next list) (get_or l i 0) js ∙ ap (λ s. steps s js) (rw append-nil at (t.passes list (level next []) (get_or l i 0)))
 
-    pub next_on : (next1 : List ℕ) (count1 r : ℕ) (after : List ℕ) → r ≡ min (length now) count
-        → Added (step (level next []) (get_or l i 0)) next1 count1 1 (take (length now - r) (drop r now)) after
-        → Added (steps (level [] []) (take (i + 1) l)) next1 (count + count1) (i + 1) out (put_mid r (length now - r) now after)
-    unfolding behind
-    next_on next1 count1 r after p v =
-        joined _ _ _ next next1 count count1 i 1 r out now after p w v
-        (rw (add-one i, take-suc l i 0 q) (first-behind [] ∙ t.none _ ∙ rw v.is))
-
-    pub next_failed : (why : Failure) → step (level next []) (get_or l i 0) ≡ broken why → steps (level [] []) l ≡ broken why
+    next_failed : (why : Failure) → step (level next []) (get_or l i 0) ≡ broken why → steps (level [] []) l ≡ broken why
     unfolding behind
     next_failed why e =
         ap (steps (level [] [])) (split_at l i 0 q) ∙ first-behind (drop (suc i) l)
         ∙ rw e (steps-failed why (drop (suc i) l))
+
+  next_on : (l next : List ℕ) (count i : ℕ) (out now : List ℕ) (w : Added (steps (level [] []) (take i l)) next count i out now) → i < length l
+      → (next1 : List ℕ) (count1 r : ℕ) (after : List ℕ) → r ≡ min (length now) count
+      → Added (step (level next []) (get_or l i 0)) next1 count1 1 (take (length now - r) (drop r now)) after
+      → Added (steps (level [] []) (take (i + 1) l)) next1 (count + count1) (i + 1) out (put_mid r (length now - r) now after)
+  unfolding behind
+  next_on l next count i out now w q next1 count1 r after p v =
+      joined _ _ _ next next1 count count1 i 1 r out now after p w v
+      (rw (add-one i, take-suc l i 0 q) (first-behind l next w.list i w.is q [] ∙ t.none _ ∙ rw v.is))
+
+-- a level's list, and why it is broken: where a lemma names them so, a step's level alone tells the check its arguments
+abbrev pub list_of : Level → List ℕ
+list_of (level next list) = list
+list_of (broken why) = []
+
+abbrev pub why_of : Level → Failure
+why_of (level next list) = failure.Damaged
+why_of (broken why) = why
+
+-- one node more with a token's hash; one more's exact targets
+module _ (k : ℕ) (a : List ℕ) (n m : ℕ) (ts : List ℕ) (h : ℕ) (l next : List ℕ) (i : ℕ) where
+  pub visits_on : (count : ℕ) (out now : List ℕ) → Added (visits k a n m ts h (level [] []) (take i l)) next count i out now → i < length l
+      → (next1 : List ℕ) (count1 r : ℕ) (after : List ℕ) → r ≡ min (length now) count
+      → Added (visit k a n m ts h (level next []) (get_or l i 0)) next1 count1 1 (take (length now - r) (drop r now)) after
+      → Added (visits k a n m ts h (level [] []) (take (i + 1) l)) next1 (count + count1) (i + 1) out (put_mid r (length now - r) now after)
+  visits_on count out now w q = next_on _ _ (visiting k a n m ts h) l next count i out now w q
+
+  abbrev met : Level
+  met = visits k a n m ts h (level [] []) (take i l)
+
+  pub visits_failed : met ≡ level next (list_of met) → i < length l
+      → visit k a n m ts h (level next []) (get_or l i 0) ≡ broken (why_of (visit k a n m ts h (level next []) (get_or l i 0)))
+      → visit k a n m ts h (level next []) (get_or l i 0) ≡ visits k a n m ts h (level [] []) l
+  visits_failed w q e = e ∙ sym (next_failed _ _ (visiting k a n m ts h) l next _ i w q _ e)
+
+module _ (a : List ℕ) (m : ℕ) (ts l : List ℕ) (i : ℕ) where
+  pub exact_on : (count : ℕ) (out now : List ℕ) → Added (exact 0 a 0 m ts (level [] []) (take i l)) [] count i out now → i < length l
+      → (count1 r : ℕ) (after : List ℕ) → r ≡ min (length now) count
+      → Added (collect a m ts 4 (get_or l i 0) (level [] [])) [] count1 1 (take (length now - r) (drop r now)) after
+      → Added (exact 0 a 0 m ts (level [] []) (take (i + 1) l)) [] (count + count1) (i + 1) out (put_mid r (length now - r) now after)
+  exact_on count out now w q = next_on _ _ (collecting 0 a 0 m ts) l [] count i out now w q []
+
+  abbrev met_last : Level
+  met_last = exact 0 a 0 m ts (level [] []) (take i l)
+
+  pub exact_failed : met_last ≡ level [] (list_of met_last) → i < length l
+      → collect a m ts 4 (get_or l i 0) (level [] []) ≡ broken (why_of (collect a m ts 4 (get_or l i 0) (level [] [])))
+      → collect a m ts 4 (get_or l i 0) (level [] []) ≡ exact 0 a 0 m ts (level [] []) l
+  exact_failed w q e = e ∙ sym (next_failed _ _ (collecting 0 a 0 m ts) l [] _ i w q _ e)
+
+pub ruleset fronts = (visits_on, visits_failed, exact_on, exact_failed)

@@ -94,6 +94,8 @@ struct Counted<'a> {
 }
 
 // The nodes of a frontier, at most LIMIT: the first `count` of them.
+// Kept: tried with arrayvec's `ArrayVec`, which overwrites what it held when it is cleared, once a token: a match on
+// 200 or 1,625 lines takes 1.07 to 1.11 times as long, one of 32 tokens 1.15 to 1.24 times.
 #[derive(Drop)]
 struct Frontier<const LIMIT: usize> {
     nodes: [u32; LIMIT],
@@ -128,6 +130,7 @@ impl<const LIMIT: usize> Frontier<LIMIT> {
     }
 
     // The root alone.
+    #[tactic(auto, using(crate::proofs::Stores::first_set))]
     fn restart(&mut self)
         ensures { self.new ≡ 0 ∷ [] }
     {
@@ -189,6 +192,7 @@ fn word_at(words: &[u32], at: usize) -> usize
 // Words are copied over the first of an output, as many as there is room for. Most often there are none, which a loop
 // passes over at once.
 // Kept: tried with `copy_from_slice`, which calls memmove once a node: a short match takes 1.05 to 1.12 times as long.
+#[tactic(auto, using(crate::proofs::Stores::copies))]
 fn copy_part(words: &[u32], out: &mut [u32])
     ensures { out.new ≡ sets out.old 0 words.now }
 {
@@ -234,7 +238,9 @@ fn visit<const LIMIT: usize>(
 }
 
 // The nodes of a frontier in turn, with a token's hash: their children become the next one.
-#[tactic(auto, unfolding(sublist_walk_rules::specs::Walk::visits))]
+// Kept: tried with one function for this and `collect_exact`, which takes the step as a closure. What it ensures needs
+// a definition of calls in turn, over the closure's states, and three `requires`: more than the five lines of a loop.
+#[tactic(auto, using(crate::proofs::Visits::fronts), unfolding(sublist_walk_rules::specs::Walk::visits))]
 fn visit_front<const LIMIT: usize>(
     table: &Counted<'_>,
     hash: u64,
@@ -256,7 +262,7 @@ fn visit_front<const LIMIT: usize>(
 }
 
 // The exact targets of the nodes of a frontier.
-#[tactic(auto, unfolding(sublist_walk_rules::specs::Walk::exact))]
+#[tactic(auto, using(crate::proofs::Visits::fronts), unfolding(sublist_walk_rules::specs::Walk::exact))]
 fn collect_exact<const LIMIT: usize>(
     table: &Counted<'_>,
     front: &Frontier<LIMIT>,
@@ -307,7 +313,7 @@ fn walk<const LIMIT: usize>(
 
 // The match by a walk with frontiers of at most LIMIT nodes; None where one would pass that. A list of at most LIST
 // targets is copied to the output; a longer one is written there by a second walk, which finds the same.
-#[tactic(auto, using(crate::proofs::Writing::again))]
+#[tactic(auto, using(crate::proofs::Writing::listings))]
 fn match_within<const LIMIT: usize, const LIST: usize>(
     counted: &Counted<'_>,
     subject: &[u8],

@@ -3,13 +3,15 @@ use Prim.Native.Nat.{ℕ, ◌+◌, ◌≤◌, ◌<◌, max}
 use native.Mathlib.Omega.{arith}
 use mathlib.Core.Path.{◌≡◌, refl, sym, ap, ◌∙◌}
 use mathlib.Core.Bool.{Bool, true, false}
-use mathlib.Core.List.{List, [], ◌∷◌, ◌++◌, map, append_assoc}
+use mathlib.Core.List.{List, [], ◌∷◌, ◌++◌, map, map-append, append_assoc}
 use lib.Dec.{eqb}
 use lib.ListN.{length, length-append, length-map}
 use borrow.Author.Tests.{lt-ltb, le-leb, eqb-true}
+use Rattle.std.proofs.lemmas.List.{append-nil, map-append}
 use Rattle.subject_rules.specs.Choice.{or}
 use Rattle.sublist_tree.specs.Lists.{concat, All}
 use Rattle.sublist_tree.specs.Tree.{Key, star, lit, Line, below, ends, present, step, walk, peak, left_at}
+use Rattle.sublist_tree.proofs.Bytes.{All-map}
 use Rattle.sublist_area_rules.specs.declared.Child.{Child}
 use Rattle.sublist_area_rules.specs.declared.Child.TheVariants.{Node, Missing, Damaged}
 use Rattle.sublist_area_rules.specs.Words.{word, child_of}
@@ -55,18 +57,6 @@ all_append : {A : Type 0} (P : A → Type 0) (xs ys : List A) → All P xs → A
 all_append P [] ys p q = q
 all_append P (x ∷ xs) ys p q = (p.0, all_append P xs ys p.1 q)
 
-all_imp : {A : Type 0} (P Q : A → Type 0) (xs : List A) → ((x : A) → P x → Q x) → All P xs → All Q xs
-all_imp P Q [] f p = tt
-all_imp P Q (x ∷ xs) f p = (f x p.0, all_imp P Q xs f p.1)
-
-map-append : {A B : Type 0} (f : A → B) (xs ys : List A) → map f (xs ++ ys) ≡ map f xs ++ map f ys
-map-append f [] ys = refl
-map-append f (x ∷ xs) ys = ap (λ l. f x ∷ l) (map-append f xs ys)
-
-append_nil : {A : Type 0} (xs : List A) → xs ++ [] ≡ xs
-append_nil [] = refl
-append_nil (x ∷ xs) = ap (λ l. x ∷ l) (append_nil xs)
-
 module _ {K : Type 0} (eq : K → K → Bool) where
   pub peak_front : (hs : List K) (ns : List (List (Line K))) → length ns ≤ peak eq hs ns
   peak_front [] ns = omega arith
@@ -95,23 +85,36 @@ module _ {K : Type 0} {eq : K → K → Bool} {P : K → Type 0} {look : ℕ →
   abbrev N : ℕ → List (Line K)
   N i = left_at eq ls (label i)
 
-  -- x is a child of i
-  abbrev Kid : ℕ → ℕ → Type 0
-  Kid i x = (k : Key K) × (label x ≡ label i ++ (k ∷ []))
+  -- what a lookup by k at node i says
+  abbrev Led : ℕ → Key K → Child → Type 0
+  Led i k c = Leads n label (label i) k (below eq k (N i)) c
 
-  -- no node of these is the child of i by k, or by any key
-  abbrev NotBy : ℕ → Key K → List ℕ → Type 0
-  NotBy i k next = All (λ x. label x ≡ label i ++ (k ∷ []) → ⊥) next
+  -- x is the child of i by k, or by some key
+  abbrev By : ℕ → Key K → ℕ → Type 0
+  By i k x = label x ≡ label i ++ (k ∷ [])
+
+  abbrev Kid : ℕ → ℕ → Type 0
+  Kid i x = (k : Key K) × By i k x
+
+  -- it is not
+  abbrev NotBy : ℕ → Key K → ℕ → Type 0
+  NotBy i k x = By i k x → ⊥
+
+  abbrev NoKid : ℕ → ℕ → Type 0
+  NoKid i x = (k : Key K) → NotBy i k x
 
   abbrev Away : List ℕ → ℕ → Type 0
-  Away next i = All (λ x. (k : Key K) → label x ≡ label i ++ (k ∷ []) → ⊥) next
+  Away next i = All (NoKid i) next
 
   -- the nodes stand for different runs
+  abbrev Apart : ℕ → ℕ → Type 0
+  Apart x y = label x ≡ label y → ⊥
+
   abbrev Distinct : List ℕ → Type 0
   Distinct [] = Unit {0}
-  Distinct (x ∷ xs) = All (λ y. label x ≡ label y → ⊥) xs × Distinct xs
+  Distinct (x ∷ xs) = All (Apart x) xs × Distinct xs
 
-  led : (i : ℕ) (k : Key K) (c : Child) → Leads n label (label i) k (below eq k (N i)) c → map N (ids c) ≡ present (below eq k (N i))
+  led : (i : ℕ) (k : Key K) (c : Child) → Led i k c → map N (ids c) ≡ present (below eq k (N i))
   led i k (Node j) l = go (below eq k (N i)) refl l.2
     where
       go : (u : List (Line K)) → below eq k (N i) ≡ u → (u ≡ [] → ⊥) → N j ∷ [] ≡ present u
@@ -120,22 +123,22 @@ module _ {K : Type 0} {eq : K → K → Bool} {P : K → Type 0} {look : ℕ →
   led i k (Missing link) l = ap present (sym l)
   led i k Damaged l = absurd l
 
-  kid : (i : ℕ) (k : Key K) (c : Child) → Leads n label (label i) k (below eq k (N i)) c → All (λ x. label x ≡ label i ++ (k ∷ [])) (ids c)
+  kid : (i : ℕ) (k : Key K) (c : Child) → Led i k c → All (By i k) (ids c)
   kid i k (Node j) l = (l.1, tt)
   kid i k (Missing link) l = tt
   kid i k Damaged l = absurd l
 
-  inside : (i : ℕ) (k : Key K) (c : Child) → Leads n label (label i) k (below eq k (N i)) c → All (λ x. x < n) (ids c)
+  inside : (i : ℕ) (k : Key K) (c : Child) → Led i k c → All (λ x. x < n) (ids c)
   inside i k (Node j) l = (l.0, tt)
   inside i k (Missing link) l = tt
   inside i k Damaged l = absurd l
 
-  pushed : (next list : List ℕ) (i : ℕ) (k : Key K) (c : Child) → Leads n label (label i) k (below eq k (N i)) c
-      → NotBy i k next → length next + length (ids c) ≤ limit → push limit (level next list) c ≡ level (next ++ ids c) list
+  pushed : (next list : List ℕ) (i : ℕ) (k : Key K) (c : Child) → Led i k c
+      → All (NotBy i k) next → length next + length (ids c) ≤ limit → push limit (level next list) c ≡ level (next ++ ids c) list
   unfolding push
   pushed next list i k (Node j) l away fits =
-      rw (not_among label j next (all_imp (λ x. label x ≡ label i ++ (k ∷ []) → ⊥) (λ x. label x ≡ label j → ⊥) next (λ x f e. f (e ∙ l.1)) away), lt-ltb (length next) limit (omega arith)) refl
-  pushed next list i k (Missing link) l away fits = ap (λ x. level x list) (sym (append_nil next))
+      rw (not_among label j next (All-map (NotBy i k) (λ x. label x ≡ label j → ⊥) next (λ x f e. f (e ∙ l.1)) away), lt-ltb (length next) limit (omega arith)) refl
+  pushed next list i k (Missing link) l away fits = ap (λ x. level x list) (sym (append-nil next))
   pushed next list i k Damaged l away fits = absurd l
 
   -- the children of node i that the hash h leads to, as the walk takes them
@@ -146,14 +149,14 @@ module _ {K : Type 0} {eq : K → K → Bool} {P : K → Type 0} {look : ℕ →
   kids h [] = []
   kids h (i ∷ fr) = kids_of h i ++ kids h fr
 
-  kid_any : (i : ℕ) (k : Key K) (c : Child) → Leads n label (label i) k (below eq k (N i)) c → All (Kid i) (ids c)
-  kid_any i k c l = all_imp (λ x. label x ≡ label i ++ (k ∷ [])) (Kid i) (ids c) (λ x e. (k, e)) (kid i k c l)
+  kid_any : (i : ℕ) (k : Key K) (c : Child) → Led i k c → All (Kid i) (ids c)
+  kid_any i k c l = All-map (By i k) (Kid i) (ids c) (λ x e. (k, e)) (kid i k c l)
 
   module _ (h : K) (small : P h) where
-    lit_leads : (i : ℕ) → i < n → Leads n label (label i) (lit h) (below eq (lit h) (N i)) (look i (lit h))
+    lit_leads : (i : ℕ) → i < n → Led i (lit h) (look i (lit h))
     lit_leads i l = H.child i (lit h) l small
 
-    star_leads : (i : ℕ) → i < n → Leads n label (label i) star (below eq star (N i)) (look i star)
+    star_leads : (i : ℕ) → i < n → Led i star (look i star)
     star_leads i l = H.child i star l tt
 
     kids_nodes : (i : ℕ) → i < n → map N (kids_of h i) ≡ present (below eq (lit h) (N i)) ++ present (below eq star (N i))
@@ -198,35 +201,35 @@ module _ {K : Type 0} {eq : K → K → Bool} {P : K → Type 0} {look : ℕ →
         )
         (ap (λ x. level x (list ++ ends true (N i))) (append_assoc next (ids (look i (lit h))) (ids (look i star))))
       where
-        by_lit : NotBy i (lit h) next
-        by_lit = all_imp (λ x. (k : Key K) → label x ≡ label i ++ (k ∷ []) → ⊥) (λ x. label x ≡ label i ++ (lit h ∷ []) → ⊥) next (λ x f. f (lit h)) away
+        by_lit : All (NotBy i (lit h)) next
+        by_lit = All-map (NoKid i) (NotBy i (lit h)) next (λ x f. f (lit h)) away
 
         star-lit : ◌≡◌ {A = Key K} star (lit h) → ⊥
-        star-lit e = let z : ◌≡◌ {A = ℕ} 0 1 = cc in omega arith
+        star-lit e = grind arith
 
-        by_star : NotBy i star (next ++ ids (look i (lit h)))
+        by_star : All (NotBy i star) (next ++ ids (look i (lit h)))
         by_star =
-            all_append (λ x. label x ≡ label i ++ (star ∷ []) → ⊥) next (ids (look i (lit h)))
-            (all_imp (λ x. (k : Key K) → label x ≡ label i ++ (k ∷ []) → ⊥) (λ x. label x ≡ label i ++ (star ∷ []) → ⊥) next (λ x f. f star) away)
-            (all_imp (λ x. label x ≡ label i ++ (lit h ∷ [])) (λ x. label x ≡ label i ++ (star ∷ []) → ⊥) (ids (look i (lit h)))
+            all_append (NotBy i star) next (ids (look i (lit h)))
+            (All-map (NoKid i) (NotBy i star) next (λ x f. f star) away)
+            (All-map (By i (lit h)) (NotBy i star) (ids (look i (lit h)))
             (λ x e f. star-lit (snoc_key (label i) (label i) star (lit h) (sym f ∙ e))) (kid i (lit h) (look i (lit h)) (lit_leads i l)))
 
     -- the children of a node are no other node's
-    away_kids : (i : ℕ) → i < n → (fr : List ℕ) → All (λ j. label i ≡ label j → ⊥) fr → All (Away (kids_of h i)) fr
+    away_kids : (i : ℕ) → i < n → (fr : List ℕ) → All (Apart i) fr → All (Away (kids_of h i)) fr
     away_kids i l [] apart = tt
     away_kids i l (j ∷ fr) apart = (
-      all_imp (Kid i) (λ x. (k : Key K) → label x ≡ label j ++ (k ∷ []) → ⊥) (kids_of h i) (λ x c k e. apart.0 (snoc_run (label i) (label j) c.0 k (sym c.1 ∙ e))) (kids_of_kid i l),
+      All-map (Kid i) (NoKid j) (kids_of h i) (λ x c k e. apart.0 (snoc_run (label i) (label j) c.0 k (sym c.1 ∙ e))) (kids_of_kid i l),
       away_kids i l fr apart.1,
     )
 
     away_join : (next new fr : List ℕ) → All (Away next) fr → All (Away new) fr → All (Away (next ++ new)) fr
     away_join next new [] p q = tt
-    away_join next new (j ∷ fr) p q = (all_append (λ x. (k : Key K) → label x ≡ label j ++ (k ∷ []) → ⊥) next new p.0 q.0, away_join next new fr p.1 q.1)
+    away_join next new (j ∷ fr) p q = (all_append (NoKid j) next new p.0 q.0, away_join next new fr p.1 q.1)
 
     visits_all : (fr next list : List ℕ) → All (λ i. i < n) fr → Distinct fr → All (Away next) fr → length next + length (kids h fr) ≤ limit
         → visits_by look limit a n m ts h (level next list) fr ≡ level (next ++ kids h fr) (list ++ concat (map (ends true) (map N fr)))
     unfolding visits_by
-    visits_all [] next list in_n apart away fits = rw (append_nil next, append_nil list) refl
+    visits_all [] next list in_n apart away fits = rw (append-nil next, append-nil list) refl
     visits_all (i ∷ fr) next list in_n apart away fits =
         ap (λ s. visits_by look limit a n m ts h s fr) (visited next list i in_n.0 away.0 (omega (arith, length-append (kids_of h i) (kids h fr))))
         ∙ visits_all fr (next ++ kids_of h i) (list ++ ends true (N i)) in_n.1 apart.1
@@ -235,17 +238,17 @@ module _ {K : Type 0} {eq : K → K → Bool} {P : K → Type 0} {look : ℕ →
         ∙ rw (append_assoc next (kids_of h i) (kids h fr), append_assoc list (ends true (N i)) (concat (map (ends true) (map N fr)))) refl
 
     -- the children of the frontier stand for different runs
-    kids_of_lem : (fr : List ℕ) → All (λ i. i < n) fr → (i : ℕ) → i < n → All (λ j. label i ≡ label j → ⊥) fr → (x : ℕ) → Kid i x → All (λ y. label x ≡ label y → ⊥) (kids h fr)
+    kids_of_lem : (fr : List ℕ) → All (λ i. i < n) fr → (i : ℕ) → i < n → All (Apart i) fr → (x : ℕ) → Kid i x → All (Apart x) (kids h fr)
     kids_of_lem [] in_n i l apart x c = tt
     kids_of_lem (j ∷ fr) in_n i l apart x c =
-        all_append (λ y. label x ≡ label y → ⊥) (kids_of h j) (kids h fr)
-        (all_imp (Kid j) (λ y. label x ≡ label y → ⊥) (kids_of h j)
+        all_append (Apart x) (kids_of h j) (kids h fr)
+        (All-map (Kid j) (Apart x) (kids_of h j)
         (λ y d e. apart.0 (snoc_run (label i) (label j) c.0 d.0 (sym c.1 ∙ e ∙ d.1))) (kids_of_kid j in_n.0))
         (kids_of_lem fr in_n.1 i l apart.1 x c)
 
-    distinct_append : (xs ys : List ℕ) → Distinct xs → Distinct ys → All (λ x. All (λ y. label x ≡ label y → ⊥) ys) xs → Distinct (xs ++ ys)
+    distinct_append : (xs ys : List ℕ) → Distinct xs → Distinct ys → All (λ x. All (Apart x) ys) xs → Distinct (xs ++ ys)
     distinct_append [] ys p q c = q
-    distinct_append (x ∷ xs) ys p q c = (all_append (λ y. label x ≡ label y → ⊥) xs ys p.0 c.0, distinct_append xs ys p.1 q c.1)
+    distinct_append (x ∷ xs) ys p q c = (all_append (Apart x) xs ys p.0 c.0, distinct_append xs ys p.1 q c.1)
 
     distinct_ids : (c : Child) → Distinct (ids c)
     distinct_ids (Node j) = (tt, tt)
@@ -255,19 +258,19 @@ module _ {K : Type 0} {eq : K → K → Bool} {P : K → Type 0} {look : ℕ →
     distinct_kids_of : (i : ℕ) → i < n → Distinct (kids_of h i)
     distinct_kids_of i l =
         distinct_append (ids (look i (lit h))) (ids (look i star)) (distinct_ids (look i (lit h))) (distinct_ids (look i star))
-        (all_imp (λ x. label x ≡ label i ++ (lit h ∷ [])) (λ x. All (λ y. label x ≡ label y → ⊥) (ids (look i star))) (ids (look i (lit h)))
-        (λ x e. all_imp (λ y. label y ≡ label i ++ (star ∷ [])) (λ y. label x ≡ label y → ⊥) (ids (look i star))
+        (All-map (By i (lit h)) (λ x. All (Apart x) (ids (look i star))) (ids (look i (lit h)))
+        (λ x e. All-map (By i star) (Apart x) (ids (look i star))
         (λ y d f. lit-star (snoc_key (label i) (label i) (lit h) star (sym e ∙ f ∙ d))) (kid i star (look i star) (star_leads i l)))
         (kid i (lit h) (look i (lit h)) (lit_leads i l)))
       where
         lit-star : ◌≡◌ {A = Key K} (lit h) star → ⊥
-        lit-star e = let z : ◌≡◌ {A = ℕ} 0 1 = cc in omega arith
+        lit-star e = grind arith
 
     distinct_kids : (fr : List ℕ) → All (λ i. i < n) fr → Distinct fr → Distinct (kids h fr)
     distinct_kids [] in_n apart = tt
     distinct_kids (i ∷ fr) in_n apart =
         distinct_append (kids_of h i) (kids h fr) (distinct_kids_of i in_n.0) (distinct_kids fr in_n.1 apart.1)
-        (all_imp (Kid i) (λ x. All (λ y. label x ≡ label y → ⊥) (kids h fr)) (kids_of h i) (λ x c. kids_of_lem fr in_n.1 i in_n.0 apart.0 x c) (kids_of_kid i in_n.0))
+        (All-map (Kid i) (λ x. All (Apart x) (kids h fr)) (kids_of h i) (λ x c. kids_of_lem fr in_n.1 i in_n.0 apart.0 x c) (kids_of_kid i in_n.0))
 
   away_none : (fr : List ℕ) → All (Away []) fr
   away_none [] = tt
@@ -275,7 +278,7 @@ module _ {K : Type 0} {eq : K → K → Bool} {P : K → Type 0} {look : ℕ →
 
   exact_all : (fr list : List ℕ) → All (λ i. i < n) fr → exact limit a n m ts (level [] list) fr ≡ level [] (list ++ concat (map (ends false) (map N fr)))
   unfolding exact collect
-  exact_all [] list in_n = rw (append_nil list) refl
+  exact_all [] list in_n = rw (append-nil list) refl
   exact_all (i ∷ fr) list in_n =
       rw (le-leb (word a i 4 + word a i 5) m (H.exact i in_n.0).0, (H.exact i in_n.0).1)
       (exact_all fr (list ++ ends false (N i)) in_n.1 ∙ ap (λ x. level [] x) (append_assoc list (ends false (N i)) (concat (map (ends false) (map N fr)))))

@@ -64,10 +64,10 @@ once_snoc [] j o f = (refl, tt)
 once_snoc (x ∷ xs) j o f = (among_snoc x xs j ∙ rw (o.0, ne_eqb x j other), once_snoc xs j o.1 (rest (eqb j x) f))
   where
     other : x ≡ j → ⊥
-    other e = let z : ◌≡◌ {A = Bool} true false = rw (eq-eqb j x (sym e)) at f in let y : ◌≡◌ {A = ℕ} 0 1 = cc in omega arith
+    other e = let z : ◌≡◌ {A = Bool} true false = rw (eq-eqb j x (sym e)) at f in grind arith
 
     rest : (b : Bool) → or b (among j xs) ≡ false → among j xs ≡ false
-    rest true g = let z : ◌≡◌ {A = ℕ} 0 1 = cc in absurd (omega arith)
+    rest true g = cc
     rest false g = g
 
 -- a frontier of at most k nodes, none twice
@@ -164,14 +164,11 @@ module _ (k : ℕ) where
 
         go : (w : Walked) → walk_over k a n m ts hs ≡ w → FitsEnd k w → w ≡ failed failure.Wide
         go (found list p) e f =
-            let s = same (λ x. let z : ◌≡◌ {A = ℕ} 0 1 = cc in omega arith) in
+            let s = same (λ x. grind arith) in
             let q : p ≡ top = cc (whole, s, e) in
             absurd (omega (arith, q, f, passes))
         go (failed failure.Wide) e f = refl
-        go (failed failure.Damaged) e f =
-            let s = same (λ x. let z : ◌≡◌ {A = ℕ} 0 1 = cc in omega arith) in
-            let z : ◌≡◌ {A = ℕ} 0 1 = cc (whole, s, e) in
-            absurd (omega arith)
+        go (failed failure.Damaged) e f = let s = same (λ x. grind arith) in cc (whole, s, e)
 
 -- 19 in the walk: up to 1,024 nodes in a frontier it is none (Held.match_holds), from the 1,025th on it is
 pub match_passes : (a : List ℕ) (n m : ℕ) (ts : List ℕ) (ls : List (Line ℕ)) → Holds a n m ts ls → (subject out : List ℕ)

@@ -10,11 +10,11 @@ use lib.Seq.{take-append_seam, length-take-le}
 use borrow.Author.Tests.{ltb-true}
 use Rattle.std.proofs.Common.{Result, Ok, Err}
 use Rattle.subject.specs.declared.SubjectError.{SubjectError}
-use Rattle.subject.specs.declared.SubjectError.TheVariants.{TooLong, NotUtf8, Empty, TailWildcardNotLast, TooDeep, EmptyToken, WildcardNotAllowed, ControlChar, IllegalChar}
 use Rattle.subject_rules.specs.Choice.{pick}
 use Rattle.subject_rules.specs.Answers.{Answer, answer}
 use Rattle.subject_rules.specs.Outputs.{over, Outcome, outcome}
 use Rattle.subject.specs.Answers.{refusal}
+use Rattle.subject.proofs.Refusals.{refusal-number}
 use Rattle.sublist_walk_rules.specs.Walk.{Walked, found, failed}
 use Rattle.sublist_walk_rules.specs.Matching.{written}
 use Rattle.sublist_snapshot.specs.declared.Snapshot.{Snapshot}
@@ -29,20 +29,9 @@ use Rattle.whole_move.specs.declared.MoveError.{MoveError}
 use Rattle.whole_move.specs.declared.MoveError.TheVariants.{Damaged}
 use Rattle.whole_move.specs.Told.{Accepted, verdict_of}
 
--- a refusal's number
+-- an answer's number
 abbrev number : Answer → ℕ
 number (answer n values) = n
-
-refusal-number : (e : SubjectError) → (1 ≤ number (refusal e)) × (number (refusal e) ≤ 9)
-refusal-number TooLong = omega arith
-refusal-number (NotUtf8 index) = omega arith
-refusal-number Empty = omega arith
-refusal-number (TailWildcardNotLast index) = omega arith
-refusal-number (TooDeep depth) = omega arith
-refusal-number (EmptyToken index) = omega arith
-refusal-number (WildcardNotAllowed ch index) = omega arith
-refusal-number (ControlChar ch index) = omega arith
-refusal-number (IllegalChar ch index) = omega arith
 
 -- an accepted subject, and counts that fit: a is what the match answers, by its walk
 module _ (s : Snapshot) (area subject out after : List ℕ) (stands : stands_in s area ≡ true) (accepted : Accepted subject) (a : Answer)
@@ -64,11 +53,11 @@ module _ (s : Snapshot) (area subject out after : List ℕ) (stands : stands_in 
     listed = go (walk_of s area subject) (rw h at by_walk)
       where
         go : (w : Walked) → outcome (answer 0 (count ∷ peak ∷ n ∷ [])) after ≡ with_generation s.generation (written w out) → (count ≤ length after) × Verdict w (single_home (take count after))
-        go (failed why) q = let z : ◌≡◌ {A = ℕ} 0 19 = cc in absurd (omega arith)
+        go (failed why) q = absurd (cc)
         go (found list p) q = ends (ltb (length out) (length list)) q
           where
             ends : (b : Bool) → outcome (answer 0 (count ∷ peak ∷ n ∷ [])) after ≡ finds b list p → (count ≤ length after) × Verdict (found list p) (single_home (take count after))
-            ends true q = let z : ◌≡◌ {A = ℕ} 0 21 = cc in absurd (omega arith)
+            ends true q = absurd (cc)
             ends false q =
                 let counted : count ≡ length list = cc in
                 let left : after ≡ over list out = cc in
@@ -88,7 +77,7 @@ module _ (s : Snapshot) (area subject out after : List ℕ) (stands : stands_in 
   judged-short matched h one = go (walk_of s area subject) (rw h at by_walk)
     where
       go : (w : Walked) → outcome (answer 21 (matched ∷ [])) after ≡ with_generation s.generation (written w out) → Verdict w (Ambiguous matched)
-      go (failed why) q = let z : ◌≡◌ {A = ℕ} 21 19 = cc in absurd (omega arith)
+      go (failed why) q = absurd (cc)
       go (found list p) q = ends (ltb (length out) (length list)) refl q
         where
           ends : (b : Bool) → ltb (length out) (length list) ≡ b → outcome (answer 21 (matched ∷ [])) after ≡ finds b list p → Verdict (found list p) (Ambiguous matched)
@@ -96,7 +85,7 @@ module _ (s : Snapshot) (area subject out after : List ℕ) (stands : stands_in 
               let counted : matched ≡ length list = cc in
               let more = ltb-true (length out) (length list) k in
               rw counted (ap Ok (home_many list (λ z. omega arith) (λ z. omega arith)))
-          ends false k q = let z : ◌≡◌ {A = ℕ} 21 0 = cc in absurd (omega arith)
+          ends false k q = absurd (cc)
 
   -- neither 0 nor 21
   pub judged-down : 1 ≤ number a → number a ≤ 20 → Err Damaged ≡ verdict_of (walk_of s area subject)
@@ -115,7 +104,7 @@ pub judged-invalid : (s : Snapshot) (area subject out after : List ℕ) → stan
     → outcome (refusal e) after ≡ match_parsed_in s area subject out → Err Damaged ≡ verdict_of (walk_of s area subject)
 judged-invalid s area subject out after stands accepted e q =
     let n = refusal-number e in
-    judged-down s area subject out after stands accepted (refusal e) q n.0 (omega arith)
+    judged-down s area subject out after stands accepted (refusal e) q (rw n.2 (omega arith)) (rw n.2 (omega (arith, n.3)))
 
 -- each way
 pub ruleset judged = (listed-count, listed-taken, judged-listed, judged-short, judged-down, judged-invalid)

@@ -1,4 +1,5 @@
 -- What each turn over the subjects makes of `routes`.
+use Rattle.std.proofs.Math.Nat.{add-sub_cancel_left}
 use Rattle.std.proofs.Common.{◌≡◌, ℕ, ◌+◌, ◌-◌, ◌<◌, List, [], ◌++◌, length, map, get_or, take, drop, Result, Ok, Err, None, sym, ◌∙◌, drop-cons, add-one, arith}
 use Rattle.sublist_walk_rules.specs.Walk.{Walked, found, failed}
 use Rattle.binding.specs.declared.Resolution.{Resolution}
@@ -9,7 +10,7 @@ use Rattle.whole_move.specs.declared.MoveError.{MoveError}
 use Rattle.whole_move.specs.declared.MoveError.TheVariants.{Damaged}
 use Rattle.whole_move.specs.Answers.{move_refusal}
 use Rattle.whole_move.specs.Told.{span_of, verdict_of}
-use Rattle.whole_move.proofs.Sound.{add_sub, sound-accepted}
+use Rattle.whole_move.proofs.Sound.{sound-accepted}
 
 -- what is left of the verdicts, behind the targets gathered
 abbrev pub behind : List ℕ → Routes → Routes
@@ -27,7 +28,7 @@ module _ (walk : List ℕ → Walked) (bytes : List ℕ) (spans : List (List ℕ
     rest = routes walk (i + 1) (map (text_at bytes) (map span_of (drop (i + 1) spans)))
 
     judged : r ≡ verdict_of (walk (text_at bytes (span_of here)))
-    judged = rw (add_sub (get_or here 0 0) (get_or here 1 0)) at q
+    judged = rw (add-sub_cancel_left (get_or here 0 0) (get_or here 1 0)) at q
 
     step : behind ts (on_walk i (walk (text_at bytes (span_of here))) rest) ≡ x
     step = rw (add-one i) (rw (drop-cons spans i [] h, add-one i) at e)
@@ -37,18 +38,18 @@ module _ (walk : List ℕ → Walked) (bytes : List ℕ) (spans : List (List ℕ
       where
         go : (w : Walked) → Err why ≡ verdict_of w → behind ts (on_walk i w rest) ≡ x → ended (turned_down (move_refusal why)) ≡ x
         go (failed f) j s = let z : why ≡ Damaged = cc in rw z s
-        go (found list peak) j s = let z : ◌≡◌ {A = ℕ} 0 1 = cc in absurd (omega arith)
+        go (found list peak) j s = absurd (cc)
 
     pub routes-stopped : (v : Resolution) → r ≡ Ok v → None ≡ routed v → ended (stopped i v) ≡ x
     routes-stopped v k n = go (walk (text_at bytes (span_of here))) (sym k ∙ judged) step
       where
         ends : (v : Resolution) → None ≡ routed v → behind ts (on_verdict i v rest) ≡ x → ended (stopped i v) ≡ x
-        ends (Routed t) n s = let z : ◌≡◌ {A = ℕ} 0 1 = cc in absurd (omega arith)
+        ends (Routed t) n s = absurd (cc)
         ends NoStream n s = s
         ends (Ambiguous m) n s = s
 
         go : (w : Walked) → Ok v ≡ verdict_of w → behind ts (on_walk i w rest) ≡ x → ended (stopped i v) ≡ x
-        go (failed f) j s = let z : ◌≡◌ {A = ℕ} 0 1 = cc in absurd (omega arith)
+        go (failed f) j s = absurd (cc)
         go (found list peak) j s = let z : v ≡ single_home list = cc in ends v n (rw z s)
 
 -- each way through a turn

@@ -1,7 +1,7 @@
 -- What each way through a move makes of `whole_move`.
-use Rattle.std.proofs.Common.{◌≡◌, ℕ, suc, ◌/◌, ◌≤◌, ◌<◌, true, false, List, [], ◌∷◌, ◌++◌, length, map, take, drop, Result, Ok, Err, refl, sym, ◌∙◌, ap, arith, lt-ltb, le-ltb}
+use Rattle.std.proofs.Common.{◌≡◌, ℕ, suc, ◌/◌, ◌≤◌, ◌<◌, true, false, List, [], ◌∷◌, ◌++◌, length, map, drop, Result, Ok, Err, refl, sym, ◌∙◌, ap, arith, lt-ltb, le-ltb}
 use Rattle.std.specs.Simd.{first_chunks}
-use Rattle.std.proofs.lemmas.List.{length-map, length-take-le}
+use Rattle.std.proofs.lemmas.List.{length-map}
 use Rattle.std.proofs.Math.Option.{none, some}
 use Rattle.sublist_snapshot.specs.declared.Snapshot.{Snapshot}
 use Rattle.sublist_snapshot.specs.Snapshot.{stands_in, walk_of}
@@ -44,7 +44,7 @@ module _ (s : Snapshot) (area bytes ws : List ℕ) (spans : List (List ℕ)) (fr
       unfolding whole_move
       move_damaged f = rw (size, le-ltb 64 (length spans) few, ← held, ← sound, f)
 
-      -- r is what the verdicts came to, with the targets gathered at the front of ts
+      -- r is what the verdicts came to, with ts the targets gathered
       module _ (stands : stands_in s area ≡ true) (ts : List ℕ) (r : Result WholeMove MoveError)
           (e : told r ts ≡ routes (walk_of s area) 0 (map (text_at bytes) (map span_of spans))) where
         move_told : written (told r ts) out ≡ whole_move s area bytes (spans_in ws) out
@@ -60,19 +60,16 @@ module _ (s : Snapshot) (area bytes ws : List ℕ) (spans : List (List ℕ)) (fr
         pub move_stopped : (place : ℕ) (v : Resolution) → w ≡ Stopped place v → moved (Ok w) out ≡ whole_move s area bytes (spans_in ws) out
         move_stopped place v h = rw h (rw h at (move_told stands ts (Ok w) e))
 
-        module _ (within : Within (Ok w) (length spans)) (room : length spans ≤ length ts) (count : ℕ) (h : w ≡ Routed count) where
-          pub routed_fits : count ≤ length ts
-          routed_fits = let all : count ≡ length spans = rw h at within in rw all room
-
-          counted : length (take count ts) ≡ count
-          counted = length-take-le count ts routed_fits
+        module _ (within : Within (Ok w) (length ts)) (count : ℕ) (h : w ≡ Routed count) where
+          counted : count ≡ length ts
+          counted = rw h at within
 
           -- 21
           pub move_short : length out < count → moved (Err (OutShort count)) out ≡ whole_move s area bytes (spans_in ws) out
-          move_short l = rw (h, counted, lt-ltb (length out) count l) at (move_told stands ts (Ok w) e)
+          move_short l = rw (h, ← counted, lt-ltb (length out) count l) at (move_told stands ts (Ok w) e)
 
-          pub move_routed : count ≤ length out → moved (Ok (Routed count)) (take count ts ++ drop count out) ≡ whole_move s area bytes (spans_in ws) out
-          move_routed l = rw (h, counted, le-ltb (length out) count l) at (move_told stands ts (Ok w) e)
+          pub move_routed : count ≤ length out → moved (Ok (Routed count)) (ts ++ drop count out) ≡ whole_move s area bytes (spans_in ws) out
+          move_routed l = rw (h, ← counted, le-ltb (length out) count l) at (move_told stands ts (Ok w) e)
 
 -- each way
-pub ruleset ways = (move_large, move_refused, move_damaged, move_failed, move_stopped, routed_fits, move_short, move_routed)
+pub ruleset ways = (move_large, move_refused, move_damaged, move_failed, move_stopped, move_short, move_routed)

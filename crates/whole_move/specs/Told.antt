@@ -1,5 +1,5 @@
 -- Only private contracts cite this file: what the parts of a whole move tell each other.
-use Rattle.std.specs.Prelude.{ℕ, ◌≡◌, false, List, get_or, take, Result, Ok, Err}
+use Rattle.std.specs.Prelude.{ℕ, ◌≡◌, false, List, get_or, Result, Ok, Err}
 use Rattle.std.proofs.Math.Option.{Option, none, some}
 use Rattle.subject_rules.specs.Answers.{Answer, answer}
 use Rattle.subject_rules.specs.Grammar.{grammar}
@@ -32,14 +32,14 @@ abbrev pub verdict_of : Walked → Result Resolution MoveError
 verdict_of (found list peak) = Ok (single_home list)
 verdict_of (failed why) = Err Damaged
 
--- all of so many subjects are routed, where none stops the move
+-- as many subjects are routed as targets are gathered, where none stops the move
 abbrev pub Within : Result WholeMove MoveError → ℕ → Type 0
-Within (Ok (Routed count)) subjects = count ≡ subjects
-Within (Ok (Stopped place resolution)) subjects = Unit {0}
-Within (Err e) subjects = Unit {0}
+Within (Ok (Routed count)) gathered = count ≡ gathered
+Within (Ok (Stopped place resolution)) gathered = Unit {0}
+Within (Err e) gathered = Unit {0}
 
--- what the verdicts come to, with the targets gathered in the first places
+-- what the verdicts come to, with the targets gathered
 abbrev pub told : Result WholeMove MoveError → List ℕ → Routes
-told (Ok (Routed count)) kept = targets (take count kept)
-told (Ok (Stopped place resolution)) kept = ended (stopped place resolution)
-told (Err e) kept = ended (turned_down (move_refusal e))
+told (Ok (Routed count)) gathered = targets gathered
+told (Ok (Stopped place resolution)) gathered = ended (stopped place resolution)
+told (Err e) gathered = ended (turned_down (move_refusal e))

@@ -79,7 +79,7 @@ module _ (pool : List (List ℕ)) (apart : HashedApart pool) where
     by_walk x w t v e = (due s.entries (text_at bytes x), peak_due s.entries (text_at bytes x), walk-due x w t, e)
 
     never_fails : (x : Span) → InPlay bytes x → Sound bytes x → Fails b.snapshot b.words (text_at bytes x) → ⊥
-    never_fails x w t f = let e = sym f.1 ∙ walk-due x w t in let z : ◌≡◌ {A = ℕ} 0 1 = cc in absurd (omega arith)
+    never_fails x w t f = let e = sym f.1 ∙ walk-due x w t in absurd (cc)
 
     fits : stands_in b.snapshot b.words ≡ true
     fits = holds_stands b.snapshot b.words (root_of fnv s.entries) i.holds

@@ -42,7 +42,7 @@ module _ (bytes : List ℕ) where
     where
       go : Sound bytes x ⊎ ((r : Answer) × OwnRefusal bytes x place r) → Sound bytes x
       go (inl s) = s
-      go (inr o) = let q : some o.0 ≡ none = sym (own_refuses place x o.0 o.1) ∙ e in let z : ◌≡◌ {A = ℕ} 0 1 = cc in absurd (omega arith)
+      go (inr o) = let q : some o.0 ≡ none = sym (own_refuses place x o.0 o.1) ∙ e in absurd (cc)
 
   -- all of them
   pub all_pass : (place : ℕ) (xs : List Span) → All (Sound bytes) xs → bad_subjects bytes place xs ≡ none

@@ -1,6 +1,5 @@
 -- The verdicts in turn: every subject's target, or the first subject that is not Routed.
 use Prim.Native.Nat.{ℕ, ◌+◌}
-use native.Mathlib.Omega.{arith}
 use native.Mathlib.Nat.{add-zero}
 use mathlib.Core.Path.{◌≡◌, refl, sym, ◌∙◌, ap}
 use mathlib.Core.List.{List, [], ◌∷◌, ◌++◌, map}
@@ -79,8 +78,8 @@ module _ (walk : List ℕ → Walked) (bytes : List ℕ) where
 
       by : (v : Resolution) → Judges (text_at bytes x) v → Comes xs → Comes (x ∷ xs)
       by (Routed t) j later = on t j later
-      by NoStream j later = stop [] xs x NoStream refl tt j (λ t e. let z : ◌≡◌ {A = ℕ} 0 1 = cc in absurd (omega arith))
-      by (Ambiguous n) j later = stop [] xs x (Ambiguous n) refl tt j (λ t e. let z : ◌≡◌ {A = ℕ} 0 1 = cc in absurd (omega arith))
+      by NoStream j later = stop [] xs x NoStream refl tt j (λ t e. absurd (cc))
+      by (Ambiguous n) j later = stop [] xs x (Ambiguous n) refl tt j (λ t e. absurd (cc))
 
       go : (w : Walked) → walk (text_at bytes x) ≡ w → Comes xs → Comes (x ∷ xs)
       go (failed why) e later = break [] xs x refl tt (why, e)

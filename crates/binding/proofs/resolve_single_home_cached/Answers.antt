@@ -11,6 +11,6 @@ returns c =
     let mapped =
     MatchResult-weaker c.resolve-resolved.result.answer {P' = λ x. c.map.result ≡ Ok (single_home c.list-list.result.now)} {Q' = λ e. c.map.result ≡ Err e}
     c.map.ensures.cases (λ x h. search rules) (λ e h. h) in
-    resolve-judged c.args.cache (lent c.args.stamps.now c.args.keys.now c.args.kept.now) c.args.snapshot c.args.area.now c.args.subject.now c.args.out.now
+    resolve-judged c.args.cache (lent c.args.stamps.now c.args.keys.now c.args.kept.now) c.args.standing.now.snapshot c.args.standing.now.area.now c.args.subject.now c.args.out.now
     c.resolve-resolved.result (lent c.resolve-resolved.new.stamps c.resolve-resolved.new.keys c.resolve-resolved.new.kept) c.resolve-resolved.new.out c.map.result c.resolve-resolved.ensures
     (answer-judged c.resolve-resolved.result.answer c.resolve-resolved.new.kept c.resolve-resolved.new.out c.list-list.result.now c.map.result c.list-list.ensures mapped)

@@ -1,20 +1,12 @@
 -- `router_bytes::resolve_bytes` meets its contract: 99, or the resolve on copies.
-use Rattle.std.proofs.Common.{◌≡◌, true, false, ◌+◌, ◌≤◌, ◌<◌, length, sym, ◌∙◌, arith}
+use Rattle.std.proofs.Common.{◌≡◌, true, false, sym, ◌∙◌}
 use Rattle.std.proofs.Common.{rules}
-use Rattle.resolve_cache_rules.specs.Answers.{lent}
 use Rattle.resolve_cache.specs.Answers.{resolve_answer}
 use Rattle.router_bytes.specs.Answers.{bytes_answer}
-use Rattle.router_bytes_rules.proofs.Limits.{resolve_99}
 use Rattle.router_bytes.proofs.Copies.{fit, wrote, stayed}
 use Rattle.router_bytes.proofs.Resolving.{resolved}
 use Rattle.router_bytes.proofs.resolve_bytes.Goals as goal
 use Rattle.router_bytes.proofs.resolve_bytes.Goals.{then-is_ok, else-is_ok}
-
-pub returns-then-copies_full : goal.returns-then-copies_full
-returns-then-copies_full c =
-    let over : 65536 < length c.args.stamps.now + length c.args.kept.now + length c.args.area.now + length c.args.out.now =
-    omega (arith, c.if-copies_full.ensures) in
-    sym (resolve_99 c.args.cache (lent c.args.stamps.now c.args.keys.now c.args.kept.now) c.args.snapshot c.args.area.now c.args.subject.now c.args.out.now over)
 
 pub store-requires : goal.store-requires
 store-requires c = fit 8 c.args.stamps.now c.load-stamp_numbers.result.0.now c.resolve-resolved.new.stamps c.load-stamp_numbers.ensures.loaded c.resolve-resolved.auto.stamps
@@ -27,10 +19,9 @@ store-requires-then-is_ok-2 c = fit 4 c.args.out.now c.load-out_words.result.0.n
 
 pub returns : goal.returns
 returns c =
-    let small : length c.args.stamps.now + length c.args.kept.now + length c.args.area.now + length c.args.out.now ≤ 65536 = omega (arith, c.if-copies_full.ensures) in
     let new = λ (t : c.is_ok.result ≡ true). wrote c.resolve-resolved.result.answer (sym c.is_ok.ensures.value ∙ t) in
     let old = λ (t : c.is_ok.result ≡ false). stayed c.resolve-resolved.result.answer (sym c.is_ok.ensures.value ∙ t) in
-    let done = resolved c.args.cache c.args.snapshot c.args.stamps.now c.args.keys.now c.args.kept.now c.args.area.now c.args.subject.now c.args.out.now small
+    let done = resolved c.args.cache c.args.snapshot c.args.stamps.now c.args.keys.now c.args.kept.now c.args.area.now c.args.subject.now c.args.out.now c.if-copies_full.ensures
     c.resolve-resolved.result _ _ _ _ _ _ _ _ c.if-is_ok.stamps c.if-is_ok.kept c.if-is_ok.out
     c.load-stamp_numbers.ensures.loaded c.load-kept_words.ensures.loaded c.load-area_words.ensures.loaded c.load-out_words.ensures.loaded c.resolve-resolved.ensures in
     let told : bytes_answer c.map_err.result ≡ resolve_answer c.resolve-resolved.result.answer = search rules in

@@ -1,8 +1,5 @@
-use Rattle.subject.proofs.Sequences.{utf8_fine, utf8_stops}
+use Rattle.subject.proofs.Sequences.{utf8_stops}
 use Rattle.subject.proofs.check_utf8.Goals as goal
-
-pub returns-in-Ok : goal.returns-in-Ok
-returns-in-Ok c = utf8_fine c.args.s.now c.in-Ok.ensures.cases.1
 
 pub returns-in-Err : goal.returns-in-Err
 returns-in-Err c = rw c.valid_up_to.ensures (utf8_stops c.args.s.now _ c.in-Err.ensures.cases.1)

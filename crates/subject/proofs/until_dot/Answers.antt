@@ -3,14 +3,8 @@ use Rattle.std.specs.List.{position}
 use Rattle.std.proofs.lemmas.Iterator.{YieldsList-from_slice}
 use Rattle.std.proofs.lemmas.Iterator.Search.{position_from_yields_List}
 use borrow.Author.Tests.{tests}
-use Rattle.subject.proofs.FirstMark.{dot_marked, dot_unmarked, dot_in_rest, until_position}
+use Rattle.subject.proofs.FirstMark.{dot_in_rest, until_position}
 use Rattle.subject.proofs.until_dot.Goals as goal
-
-pub returns-then-dots-ne0 : goal.returns-then-dots-ne0
-returns-then-dots-ne0 c = dot_marked _ _ c.as_chunks.ensures.front c.as_chunks.ensures.front_len _ c.loop-i-test.true _ c.dots_in-dots.ensures c.loop-i.invariant c.if-dots-ne0.true
-
-pub loop-i-preserved : goal.loop-i-preserved
-loop-i-preserved c = dot_unmarked _ _ c.as_chunks.ensures.front c.as_chunks.ensures.front_len _ c.loop-i-test.true _ c.dots_in-dots.ensures c.loop-i.invariant c.if-dots-ne0.false
 
 pub returns : goal.returns
 returns c =

@@ -1,13 +1,8 @@
 use Rattle.std.proofs.Common.{◌++◌, drop, length, replicate, w64, ap, ◌∙◌}
 use Rattle.std.specs.Int.{from_le_bytes}
 use Rattle.subject.proofs.Positions.{rest_is}
-use Rattle.subject.proofs.Spelled.{word_whole, word_padded}
+use Rattle.subject.proofs.Spelled.{word_padded}
 use Rattle.subject.proofs.word_at.Goals as goal
-
-pub returns-in-Some-first_chunk : goal.returns-in-Some-first_chunk
-returns-in-Some-first_chunk c =
-    let rest = c.in-Some.rest.now in
-    word_whole c.args.s.now rest c.args.at _ (rest_is c.args.s.now rest c.args.at c.in-Some.ensures.lookup.0.2) c.in-Some-first_chunk.word.now c.in-Some-first_chunk.ensures.cases.same c.from_le_bytes.ensures
 
 pub returns : goal.returns
 returns c =

@@ -7,12 +7,12 @@ use Rattle.subject.specs.Reading.{tokens_from}
 use Rattle.subject_rules.specs.Text.{tokens}
 use Rattle.sublist.specs.Sharing.{same_key}
 use Rattle.sublist.proofs.Alike.{run_alike}
-use Rattle.sublist.proofs.OneMore.{tokens-most}
+use Rattle.subject_rules.proofs.Tokens.{tokens_most}
 use Rattle.sublist.proofs.shared_run.Goals as goal
 
 pub count-requires-clause-fits : goal.count-requires-clause-fits
 count-requires-clause-fits c =
-    inl (rw (c.take_while.ensures.source, c.zip.ensures.first, c.zip.ensures.second, c.new.ensures.whole, c.new-2.ensures.whole) (omega (arith, tokens-most c.args.a.now)))
+    inl (rw (c.take_while.ensures.source, c.zip.ensures.first, c.zip.ensures.second, c.new.ensures.whole, c.new-2.ensures.whole) (omega (arith, tokens_most c.args.a.now)))
 
 pub returns : goal.returns
 returns c =

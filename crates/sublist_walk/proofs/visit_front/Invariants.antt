@@ -6,4 +6,4 @@ use Rattle.sublist_walk.proofs.visit_front.Given as goal
 
 abbrev pub invariant-loop-node : goal.invariant-loop-node
 invariant-loop-node g l =
-    Added (visits_in g.row.LIMIT l.table l.hash (level [] []) (take l.node-index l.nodes)) l.to l.count l.node-index l.initial.out l.out
+    Added (visits_in g.row.LIMIT l.table l.hash (level [] []) (take l.node-index l.from)) l.to l.count l.node-index l.initial.out l.out

@@ -1,7 +1,6 @@
 -- `resolve_cache::Slots::look_up` meets its contract. Assumes nothing.
 use Rattle.std.proofs.Common.{◌≡◌, ◌≤◌, Some, length, sym, ap, ◌∙◌, arith, length-take-le}
-use Rattle.std.proofs.lemmas.Result.{err_from_is_err_and}
-use Rattle.subject_rules.specs.Outputs.{outcome}
+use Rattle.sublist_snapshot.specs.Snapshot.{match_in, match_parsed_in}
 use Rattle.sublist_snapshot.proofs.Fronts.{parsed_match}
 use Rattle.resolve_cache_rules.specs.Cache.{adopt, resolve}
 use Rattle.resolve_cache_rules.specs.Ready.{Small}
@@ -13,19 +12,24 @@ use Rattle.resolve_cache.proofs.Slots.look_up.Goals as goal
 use Rattle.resolve_cache.proofs.Slots.look_up.Goals.{After-adopt-current, In_default-find, In-Some-find, In_ok-found}
 
 -- the refusals before do not apply, and the cache is on the standing table's generation
-asked : (k : After-adopt-current) → Asked k.args.cache.now (area_of k.args.self.now) k.args.snapshot k.args.area.now k.args.subject.now k.adopt-current.result
+asked : (k : After-adopt-current) → Asked k.args.cache.now (area_of k.args.self.now) k.args.standing.now.snapshot k.args.standing.now.area.now k.args.subject.now k.adopt-current.result
 asked k = record {
   accepted = (k.in_ok-parse_literal.field-0, sym k.in_ok-parse_literal.ensures);
   fits = sym k.is_short.ensures ∙ k.if-is_short.false;
   good = k.in-Some.ensures.0;
-  stands = sym k.stands_in.ensures ∙ k.if-not-stands_in.false;
+  stands = sym k.stands.ensures ∙ k.if-not-stands.false;
   on = k.adopt-current.ensures ∙ ap (λ g. adopt g k.args.cache.now) k.generation.ensures;
 }
 
 -- no slot in use keeps the subject
-missing : (k : In_default-find) → walking k.args.cache.now (area_of k.args.self.now) k.args.snapshot k.args.area.now k.args.subject.now k.args.out.now
-    ≡ resolve k.args.cache.now (area_of k.args.self.now) k.args.snapshot k.args.area.now k.args.subject.now k.args.out.now
+missing : (k : In_default-find) → walking k.args.cache.now (area_of k.args.self.now) k.args.standing.now.snapshot k.args.standing.now.area.now k.args.subject.now k.args.out.now
+    ≡ resolve k.args.cache.now (area_of k.args.self.now) k.args.standing.now.snapshot k.args.standing.now.area.now k.args.subject.now k.args.out.now
 missing k = walks _ _ _ _ _ _ _ (asked (goal.at.In_default-find k).After-adopt-current) (rw (k.in-Some.ensures.2, k.in-Some.ensures.1) at k.in_default-find.ensures)
+
+-- and the match of the parsed subject is the match
+matched : (k : In_default-find) → match_parsed_in k.args.standing.now.snapshot k.args.standing.now.area.now k.args.subject.now k.args.out.now
+    ≡ match_in k.args.standing.now.snapshot k.args.standing.now.area.now k.args.subject.now k.args.out.now
+matched k = parsed_match _ _ _ _ _ (sym k.in_ok-parse_literal.ensures)
 
 -- the slot that was found, and that no slot in use is bad
 first : (k : In-Some-find) → FirstOf k.args.cache.now.capacity k.args.self.now.keys.now k.args.subject.now 0 k.adopt-current.result.used (Some k.in-Some-find.slot)
@@ -35,11 +39,10 @@ small : (k : In-Some-find) → Small k.args.cache.now.capacity k.args.self.now.k
 small k = rw (k.in-Some.ensures.3, k.in-Some.ensures.2, k.in-Some.ensures.1) at k.in-Some.in_use.small
 
 -- the list that was found
-listed : (k : In_ok-found) → Lists k.args.cache.now (area_of k.args.self.now) k.args.snapshot k.args.area.now k.args.subject.now k.args.out.now
+listed : (k : In_ok-found) → Lists k.args.cache.now (area_of k.args.self.now) k.args.standing.now.snapshot k.args.standing.now.area.now k.args.subject.now k.args.out.now
     k.in_ok-found.found.count k.match_parsed.new.out
 listed k =
-    walk_lists _ _ _ _ _ _ _ _ _ _
-    (k.in_ok-found.ensures ∙ parsed_match k.args.snapshot k.args.area.now k.args.subject.now k.args.out.now _ (sym k.in_ok-parse_literal.ensures))
+    walk_lists _ _ _ _ _ _ _ _ _ _ (k.in_ok-found.ensures ∙ matched (goal.at.In_ok-found k).In_default-find)
 
 -- so many places are there
 inside : (k : In_ok-found) → k.in_ok-found.found.count ≤ length k.match_parsed.new.out
@@ -47,13 +50,8 @@ inside k = let l = listed k in omega (arith, l.counted, l.fits, k.match_parsed.a
 
 pub returns-in_err-found-clause-leaves : goal.returns-in_err-found-clause-leaves
 returns-in_err-found-clause-leaves c =
-    let p = err_from_is_err_and c.from_residual-in_err-found.result c.from_residual-in_err-found.ensures.1 in
-    rw p.1
-    (walk_refused _ _ _ _ _ _ p.0 _
-    (ap (λ y. outcome y c.match_parsed.new.out) p.2
-    ∙ c.in_err-found.ensures
-    ∙ parsed_match c.args.snapshot c.args.area.now c.args.subject.now c.args.out.now _ (sym c.in_ok-parse_literal.ensures))
-    ∙ missing (goal.at.returns-in_err-found-clause-leaves c).In_default-find)
+    let k = (goal.at.returns-in_err-found-clause-leaves c).In_default-find in
+    walk_refused _ _ _ _ _ _ _ _ (c.in_err-found.ensures ∙ matched k) _ c.from_residual-in_err-found.ensures.1 ∙ missing k
 
 pub slice_bounds-keep_list-end : goal.slice_bounds-keep_list-end
 slice_bounds-keep_list-end c = inside (goal.at.slice_bounds-keep_list-end c).In_ok-found
