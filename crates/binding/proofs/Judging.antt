@@ -18,7 +18,7 @@ use Rattle.subject_rules.specs.Outputs.{outcome}
 use Rattle.sublist_snapshot.specs.declared.Snapshot.{Snapshot}
 use Rattle.sublist_snapshot.specs.Snapshot.{match_in}
 use Rattle.resolve_cache_rules.specs.declared.ResolveCache.{ResolveCache}
-use Rattle.resolve_cache.specs.declared.Resolved.{Resolved as Returned}
+use Rattle.resolve_cache_rules.specs.declared.Answered.{Answered}
 use Rattle.resolve_cache_rules.specs.Area.{Area}
 use Rattle.resolve_cache_rules.specs.Cache.{fresh, handed, resolve}
 use Rattle.resolve_cache.specs.Answers.{resolve_answer, left, list_of}
@@ -65,7 +65,7 @@ answer-judged (Ok (Walked count)) kept out list v l e = rw (e, l)
 answer-judged (Err r) kept out list v l e = rw (e, (refusal-number r).2)
 
 -- what the judge says of a resolve that returned r and left these areas
-pub resolve-judged : (c : ResolveCache) (a : Area) (s : Snapshot) (area subject out : List ℕ) (r : Returned) (after : Area) (out_after : List ℕ) (v : Result Resolution ResolveError)
+pub resolve-judged : (c : ResolveCache) (a : Area) (s : Snapshot) (area subject out : List ℕ) (r : Answered (Result ListPlace ResolveError)) (after : Area) (out_after : List ℕ) (v : Result Resolution ResolveError)
     → left r after out_after ≡ resolve c a s area subject out → cached_answer v ≡ judge_handed (handed (resolve_answer r.answer) after.kept out_after)
     → ◌≡◌ {A = CachedHomed} (record { says = cached_answer v; cache = r.cache; area = after; out = out_after }) (resolve_single_home_cached c a s area subject out)
 unfolding resolve_single_home_cached

@@ -3,12 +3,12 @@
 use Rattle.std.specs.Prelude.{ℕ, List, [], ◌∷◌, Result, Ok, Err}
 use Rattle.sublist_walk.specs.declared.MatchError.{MatchError}
 use Rattle.sublist_walk.specs.Answers.{match_refusal}
+use Rattle.resolve_cache_rules.specs.declared.Answered.{Answered}
 use Rattle.resolve_cache_rules.specs.Area.{Area}
 use Rattle.resolve_cache.specs.declared.ResolveError.{ResolveError}
 use Rattle.resolve_cache.specs.Answers.{resolve_refusal}
 use Rattle.binding.specs.declared.SingleHome.{SingleHome}
 use Rattle.binding.specs.declared.Resolution.{Resolution}
-use Rattle.binding.specs.declared.CachedResolution.{CachedResolution}
 use Rattle.binding.specs.Verdict.{Judged, turned_down, judged, Homed, CachedHomed}
 
 -- the verdict with the peak and the generation, or the refusal of the match
@@ -26,5 +26,5 @@ abbrev pub homed : Result SingleHome MatchError → List ℕ → Homed
 homed r out = record { says = home_answer r; out = out }
 
 -- and with the areas as it left them
-abbrev pub cached_homed : CachedResolution → Area → List ℕ → CachedHomed
+abbrev pub cached_homed : Answered (Result Resolution ResolveError) → Area → List ℕ → CachedHomed
 cached_homed r a out = record { says = cached_answer r.answer; cache = r.cache; area = a; out = out }

@@ -10,7 +10,7 @@ ghost use Rattle.binding.specs.Verdict.{resolve_single_home_cached};
 ghost use Rattle.binding.specs.Answers.{cached_answer, homed, cached_homed};
 
 use resolve_cache::ResolveError;
-use resolve_cache_rules::ResolveCache;
+use resolve_cache_rules::{Answered, ResolveCache};
 use sublist_snapshot::{Generation, StandingTable};
 use sublist_walk::MatchError;
 
@@ -28,13 +28,6 @@ pub struct SingleHome {
     pub resolution: Resolution,
     pub peak: usize,
     pub generation: Generation,
-}
-
-// A verdict by a resolve, and the cache afterwards.
-#[derive(Clone, Copy)]
-pub struct CachedResolution {
-    pub cache: ResolveCache,
-    pub answer: Result<Resolution, ResolveError>,
 }
 
 impl Resolution {
@@ -97,14 +90,14 @@ pub fn resolve_single_home_cached(
     standing: &StandingTable<'_>,
     subject: &[u8],
     out: &mut [u32],
-) -> CachedResolution
+) -> Answered<Result<Resolution, ResolveError>>
     ensures { cached_homed result (lent stamps.new keys.new kept.new) out.new
         ≡ resolve_single_home_cached cache (lent stamps.old keys.old kept.old)
         standing.now.snapshot standing.now.area.now subject.now out.old }
 {
     let resolved = resolve_cache::resolve(cache, stamps, keys, kept, standing, subject, out);
     let list = resolve_cache::list(resolved.answer, kept, out);
-    CachedResolution {
+    Answered {
         cache: resolved.cache,
         answer: resolved.answer.map(|_| single_home(list)),
     }

@@ -5,11 +5,10 @@ use mathlib.Core.Logic.{◌⊎◌, inl, inr}
 use mathlib.Core.Bool.{Bool, true, false}
 use mathlib.Core.List.{List, [], ◌∷◌, ◌++◌, Memᴰ}
 use mathlib.Core.Option.{none, some}
-use lib.Dec.{eqb}
 use lib.ListN.{length}
-use borrow.Author.Tests.{eqb-true}
 use Rattle.subject_rules.specs.Original.{when◌then◌else◌, equal}
-use Rattle.sublist_tree.proofs.Bytes.{eqb_whole}
+use Rattle.subject_rules.proofs.SameMatching.{equal-same}
+use Rattle.sublist_tree.proofs.Bytes.{same-sound, same_whole}
 use Rattle.binding_original.specs.Original.{CacheEntry, HashMap, Each, get, refresh, remove}
 
 -- a key and its entry
@@ -17,18 +16,10 @@ abbrev pub Pair : Type 0
 Pair = List ℕ × CacheEntry ℕ
 
 equal-sound : (xs ys : List ℕ) → equal xs ys ≡ true → xs ≡ ys
-equal-sound [] [] e = refl
-equal-sound [] (y ∷ ys) e = absurd (cc)
-equal-sound (x ∷ xs) [] e = absurd (cc)
-equal-sound (x ∷ xs) (y ∷ ys) e = go (eqb x y) refl e (equal-sound xs ys)
-  where
-    go : (b : Bool) → eqb x y ≡ b → (when b then equal xs ys else false) ≡ true → (equal xs ys ≡ true → xs ≡ ys) → x ∷ xs ≡ y ∷ ys
-    go true p e ih = rw (eqb-true x y p, ih e)
-    go false p e ih = absurd (cc)
+equal-sound xs ys e = same-sound xs ys (sym (equal-same xs ys) ∙ e)
 
 pub equal_whole : (xs : List ℕ) → equal xs xs ≡ true
-equal_whole [] = refl
-equal_whole (x ∷ xs) = rw (eqb_whole x, equal_whole xs)
+equal_whole xs = equal-same xs xs ∙ same_whole xs
 
 pub equal_other : (xs ys : List ℕ) → (xs ≡ ys → ⊥) → equal xs ys ≡ false
 equal_other xs ys n = go (equal xs ys) refl

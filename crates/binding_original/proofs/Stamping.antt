@@ -10,8 +10,9 @@ use Rattle.subject_rules.specs.Original.{when◌then◌else◌}
 use Rattle.sublist_tree.specs.Lists.{All}
 use Rattle.sublist_tree.specs.Tree.{walk}
 use Rattle.sublist_tree.specs.Table.{TableEntry, root_of, Accepted}
-use Rattle.sublist_original.specs.Original.{Outcome, Ok, Err, Panic, ◌>>=◌, ForkLimitExceeded, Std, SublistBuilder, Arena, Node, Sublist, root_alone, each_entry, each_scratch, worst_case_frontier, build, match_into}
+use Rattle.sublist_original.specs.Original.{Outcome, Ok, Err, ForkLimitExceeded, Std, SublistBuilder, Node, Sublist, root_alone, each_entry, each_scratch, worst_case_frontier, build, match_into}
 use Rattle.sublist_original.specs.Entries.{builder_of}
+use Rattle.sublist_original.proofs.Indexing.{carried}
 use Rattle.sublist_original.proofs.Accepting.{insert_accepts}
 use Rattle.sublist_original.proofs.SameTable.{match_original}
 use Rattle.binding_original.specs.Original.{stamp}
@@ -29,30 +30,9 @@ module _ (std : Std) (builder : SublistBuilder ℕ) (g h : ℕ) (table : Sublist
   -- what `build` does with its generation is to keep it
   build-stamp : build std builder g ≡ Ok table → build std builder h ≡ Ok (stamp table h)
   unfolding build
-  build-stamp = by_arena (each_entry root_alone builder.entries)
-    where
-      by_flat : (r : Outcome ℕ) (flat : List ℕ × List Node)
-          → (r >>= (λ worst_case. when ltb 1024 worst_case then Err (ForkLimitExceeded worst_case 1024) else Ok (record { nodes = flat.1; targets = flat.0; generation = g }))) ≡ Ok table
-          → (r >>= (λ worst_case. when ltb 1024 worst_case then Err (ForkLimitExceeded worst_case 1024) else Ok (record { nodes = flat.1; targets = flat.0; generation = h }))) ≡ Ok (stamp table h)
-      by_flat (Ok n) flat e = by_worst flat n (ltb 1024 n) e
-      by_flat (Err x) flat e = absurd (cc)
-      by_flat Panic flat e = absurd (cc)
-
-      ends : ℕ → Outcome (List ℕ × List Node) → Outcome (Sublist ℕ)
-      ends k r =
-          r >>= (λ flat. worst_case_frontier flat.1 >>= (λ worst_case. when ltb 1024 worst_case then Err (ForkLimitExceeded worst_case 1024)
-          else Ok (record { nodes = flat.1; targets = flat.0; generation = k })))
-
-      by_nodes : (r : Outcome (List ℕ × List Node)) → ends g r ≡ Ok table → ends h r ≡ Ok (stamp table h)
-      by_nodes (Ok flat) e = by_flat (worst_case_frontier flat.1) flat e
-      by_nodes (Err x) e = absurd (cc)
-      by_nodes Panic e = absurd (cc)
-
-      by_arena : (r : Outcome (Arena ℕ)) → (r >>= (λ arena. ends g (each_scratch std arena 0 arena.nodes [] []))) ≡ Ok table
-          → (r >>= (λ arena. ends h (each_scratch std arena 0 arena.nodes [] []))) ≡ Ok (stamp table h)
-      by_arena (Ok arena) e = by_nodes (each_scratch std arena 0 arena.nodes [] []) e
-      by_arena (Err x) e = absurd (cc)
-      by_arena Panic e = absurd (cc)
+  build-stamp =
+      carried (λ arena. carried (λ flat. carried (λ worst_case. by_worst flat worst_case (ltb 1024 worst_case)) (worst_case_frontier flat.1)) (each_scratch std arena 0 arena.nodes [] []))
+      (each_entry root_alone builder.entries)
 
 -- the list that a table with these entries gives for a subject
 abbrev pub walked_by : List TableEntry → List ℕ → List ℕ

@@ -6,18 +6,14 @@ use Prim.Native.Nat.{ℕ, ◌≤◌}
 use mathlib.Core.Path.{◌≡◌, refl, sym, subst}
 use mathlib.Core.Bool.{Bool, true, false}
 use mathlib.Core.List.{List, [], ◌∷◌}
-use mathlib.Core.Option.{Option, none, some}
-use lib.Dec.{eqb, ltb}
+use lib.Dec.{ltb}
 use lib.ListN.{length}
-use borrow.Author.Tests.{ltb-false}
 use Rattle.subject_rules.specs.Choice.{pick, or}
-use Rattle.subject_rules.specs.Text.{tokens}
-use Rattle.subject_rules.specs.Utf8.{first_bad}
-use Rattle.subject_rules.specs.Answers.{Answer, answer, unless}
-use Rattle.subject_rules.specs.Grammar.{check, not_utf8, grammar}
+use Rattle.subject_rules.specs.Answers.{Answer, answer}
+use Rattle.subject_rules.specs.Grammar.{grammar}
 use Rattle.subject_rules.specs.Original as subject
 use Rattle.subject_rules.specs.Original.{Error, Empty, EmptyToken, IllegalChar, ControlChar, WildcardNotAllowed, TailWildcardNotLast, TooDeep, validate, answer_of}
-use Rattle.subject_rules.proofs.SameGrammar.{grammar_original}
+use Rattle.subject_rules.proofs.SameGrammar.{grammar_original, TextKind, overlong, wrong, plain, kind_of}
 use Rattle.sublist_original.specs.Original.{Outcome, Ok}
 use Rattle.resolve_cache_rules.specs.Cache.{Handed, turned_back, gives}
 use Rattle.resolve_cache_rules.proofs.Faithful.{unless_text, fitting, accepted_some}
@@ -32,25 +28,6 @@ verdict_same [] = refl
 verdict_same (x ∷ []) = refl
 verdict_same (x ∷ (y ∷ zs)) = refl
 
--- a subject's text meets an added refusal, or ends as the original's parser says
-data Text (bs : List ℕ) : Type 0 where
-  long : grammar false bs ≡ answer 1 [] → Text bs
-  wrong : (i : ℕ) → grammar false bs ≡ answer 2 (i ∷ []) → Text bs
-  plain : grammar false bs ≡ answer_of (validate bs false) → Text bs
-
-grammar-is : (bs : List ℕ) (b : Bool) → ltb 4096 (length bs) ≡ b → (o : Option ℕ) → first_bad bs ≡ o
-    → grammar false bs ≡ pick b (answer 1 []) (unless (not_utf8 o) (pick (eqb (length bs) 0) (answer 3 []) (check false none 0 (tokens bs))))
-unfolding grammar
-grammar-is bs b p o q = rw (p, q)
-
-text_of : (bs : List ℕ) → Text bs
-text_of bs = go (ltb 4096 (length bs)) refl (first_bad bs) refl
-  where
-    go : (b : Bool) → ltb 4096 (length bs) ≡ b → (o : Option ℕ) → first_bad bs ≡ o → Text bs
-    go true p o q = long (grammar-is bs true p o q)
-    go false p (some i) q = wrong i (grammar-is bs false p (some i) q)
-    go false p none q = plain (grammar_original false bs (ltb-false 4096 (length bs) p) q)
-
 -- what is handed back, as a reply
 abbrev pub reply_of : (List ℕ → ours.Reply) → Handed → ours.Reply
 reply_of give (turned_back r) = ours.refused r
@@ -64,7 +41,7 @@ Given compared r given rest = (x : Told × World) × (given ≡ Ok x) × (pick c
 pub compared_handed : (compared : Bool) (text list : List ℕ) (room : ℕ) (give : List ℕ → ours.Reply) (w : World) (theirs : Outcome (Told × World)) (Rest : Handed → World → Type 0)
     → ((r : Answer) → Rest (turned_back r) w) → added (give list) ≡ false → refusing (give list) ≡ false → (1 ≤ length text → Given compared (give list) theirs (Rest (gives list)))
     → Compared compared (reply_of give (unless_text (grammar false text) (fitting room list))) w (parsed (validate text false) w theirs) (Rest (unless_text (grammar false text) (fitting room list)))
-compared_handed compared text list room give w theirs Rest here plainly calm accepted = go (text_of text)
+compared_handed compared text list room give w theirs Rest here plainly calm accepted = go (kind_of false text)
   where
     Goal : Answer → Outcome (Told × World) → Type 0
     Goal a given = Compared compared (reply_of give (unless_text a (fitting room list))) w given (Rest (unless_text a (fitting room list)))
@@ -92,7 +69,10 @@ compared_handed compared text list room give w theirs Rest here plainly calm acc
     by_parse (subject.Ok n) e = by_room (accepted_some text (n ∷ []) e) (ltb room (length list))
     by_parse (subject.Err x) e = by_error x
 
-    go : Text text → Goal (grammar false text) (parsed (validate text false) w theirs)
-    go (long e) = subst (λ a. Goal a (parsed (validate text false) w theirs)) (sym e) (here (answer 1 []))
+    -- its text meets an added refusal, or ends as the original's parser says
+    go : TextKind false text → Goal (grammar false text) (parsed (validate text false) w theirs)
+    go (overlong e) = subst (λ a. Goal a (parsed (validate text false) w theirs)) (sym e) (here (answer 1 []))
     go (wrong i e) = subst (λ a. Goal a (parsed (validate text false) w theirs)) (sym e) (here (answer 2 (i ∷ [])))
-    go (plain e) = subst (λ a. Goal a (parsed (validate text false) w theirs)) (sym e) (by_parse (validate text false) e)
+    go (plain s u) =
+        let e = grammar_original false text s u in
+        subst (λ a. Goal a (parsed (validate text false) w theirs)) (sym e) (by_parse (validate text false) e)

@@ -12,6 +12,7 @@ use mathlib.Core.Bool.{Bool, true, false}
 use mathlib.Core.List.{List, ◌∷◌}
 use lib.Dec.{eqb}
 use borrow.Author.Tests.{eqb-true, eqb-false, ne_eqb}
+use Rattle.std.proofs.lemmas.Bool.{true≢false}
 use Rattle.subject_rules.specs.Choice.{pick, or}
 use Rattle.subject_rules.specs.Fnv.{fnv}
 use Rattle.subject_rules.proofs.Booleans.{or_true}
@@ -59,9 +60,6 @@ seen_by t f = record { spoiled = λ j. or (t.spoiled j) (f j); named = t.named; 
 abbrev pub nothing : ℕ → Bool
 nothing j = false
 
-never : (b : Bool) → b ≡ true → b ≡ false → ⊥
-never b p q = cc
-
 module _ (std : Std) (k : Seen) (m : ℕ) (y : Yard) (w : World) (held : Together std k m y w) where
   -- the same snapshots, other caches
   pub with_caches : (f : ℕ → Bool) (ys : ℕ → Kept) (ws : ℕ → ResolveCache ℕ)
@@ -103,7 +101,7 @@ module _ (std : Std) (k : Seen) (m : ℕ) (y : Yard) (w : World) (held : Togethe
 
     -- a table that stood before has another generation
     other : among h k.stood ≡ false → (x : ℕ) → among x k.named ≡ true → h ≡ stands_at y x → ⊥
-    other new x n e = never (among h k.stood) (ap (λ g. among g k.stood) e ∙ held.among-stood x n) new
+    other new x n e = true≢false (sym (ap (λ g. among g k.stood) e ∙ held.among-stood x n) ∙ new)
 
     pub stands : Together std (standing k j h) m (record { snapshots = λ i. pick (eqb j i) s (y.snapshots i); caches = y.caches }) (with_snapshot w j o)
     stands = record {

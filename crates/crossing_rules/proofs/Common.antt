@@ -9,6 +9,7 @@ use lib.ListN.{length}
 use Rattle.subject_rules.specs.Choice.{pick, or}
 use Rattle.subject_rules.specs.Text.{is_star, is_tail, same}
 use Rattle.subject_rules.specs.Matching.{match_tokens}
+use Rattle.subject_rules.proofs.Booleans.{or_true}
 use Rattle.sublist_tree.specs.Lists.{All}
 use Rattle.sublist_tree.proofs.Bytes.{same-sound, same_whole}
 use Rattle.crossing_rules.specs.Crossing.{is_wild, plain, meet, followed, common}
@@ -125,11 +126,7 @@ abbrev pub fits : List ℕ → List ℕ → Bool
 fits p t = or (is_star p) (same p t)
 
 fits_itself : (t : List ℕ) → fits t t ≡ true
-fits_itself t = rw (same_whole t) (go (is_star t))
-  where
-    go : (s : Bool) → or s true ≡ true
-    go true = refl
-    go false = refl
+fits_itself t = rw (same_whole t) (or_true (is_star t))
 
 star-fits : (p t : List ℕ) → is_star p ≡ true → fits p t ≡ true
 star-fits p t e = rw e

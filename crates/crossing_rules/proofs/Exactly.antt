@@ -15,7 +15,7 @@ use Rattle.subject_rules.specs.Answers.{Answer, answer, said, when_accepted}
 use Rattle.subject_rules.specs.Grammar.{grammar}
 use Rattle.subject_rules.specs.Matching.{match_tokens, matching}
 use Rattle.subject_rules.specs.Outputs.{Outcome, outcome, over, if_parsed}
-use Rattle.subject_rules.proofs.Depths.{number, passed, accepted-values, accepted_depth, tokens_some}
+use Rattle.subject_rules.proofs.Depths.{passed, accepted-values, accepted_depth, tokens_some}
 use Rattle.sublist_tree.specs.Lists.{All}
 use Rattle.crossing_rules.specs.Crossing.{common, of_tokens, shown_for, show_in, crossing_with, crossing}
 use Rattle.crossing_rules.specs.Asked.{BothMatch, Shown, Apart, Accepts, Asked, first_refused, second_refused, apart, out_short, shown}
@@ -49,8 +49,8 @@ match_yes pattern subject e = go (grammar true pattern) refl (grammar false subj
           subject_accepted = q ∙ ap (answer 0) (accepted-values false subject ws q);
           tokens_match = matches_yes (match_tokens (tokens pattern) (tokens subject)) e;
         }
-    go (answer zero vs) p (answer (suc n) ws) q e = let z : ⊥ = omega (arith, ap number e) in absurd z
-    go (answer (suc n) vs) p h q e = let z : ⊥ = omega (arith, ap number e) in absurd z
+    go (answer zero vs) p (answer (suc n) ws) q e = absurd (cc)
+    go (answer (suc n) vs) p h q e = absurd (cc)
 
 pub yes_match : (pattern subject : List ℕ) → Matching pattern subject → matching pattern subject ≡ said true
 unfolding matching
@@ -178,10 +178,10 @@ module _ (filler first second : List ℕ) (f : Accepts first) (s : Accepts secon
 
     -- where a subject meets all that is asked, it is shown
     only-tokens : (t : List ℕ) → Shown filler first second t → (o : Option (List (List ℕ))) → common filler (tokens first) (tokens second) ≡ o → of_tokens o ≡ some t
-    only-tokens t w none e = let z : ⊥ = rw e at (no_longer t w.matched) in absurd z
+    only-tokens t w none e = absurd (rw e at (no_longer t w.matched))
     only-tokens t w (some ts) e =
         by_limit ts (λ o. o ≡ some t) (λ h. ap some (sym (only_this ts e t w)))
-        (λ h. let z : ⊥ = omega (arith, h, shorter ts e t w.matched, fits t w.matched) in absurd z)
+        (λ h. absurd (omega (arith, h, shorter ts e t w.matched, fits t w.matched)))
 
     pub shown-only : (t : List ℕ) → Shown filler first second t → shown_for filler first second ≡ some t
     unfolding shown_for

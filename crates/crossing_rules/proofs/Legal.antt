@@ -1,7 +1,7 @@
 -- Tokens that a subject or a pattern may have, and the grammar of what is put together of them.
 use Prim.Native.Nat.{ℕ, suc, ◌+◌, ◌≤◌}
 use native.Mathlib.Omega.{arith}
-use mathlib.Core.Path.{◌≡◌, refl, ap}
+use mathlib.Core.Path.{◌≡◌, refl}
 use mathlib.Core.Bool.{Bool, true, false}
 use mathlib.Core.List.{List, [], ◌∷◌}
 use mathlib.Core.Option.{Option, none, some}
@@ -12,7 +12,8 @@ use Rattle.subject_rules.specs.Choice.{pick, or}
 use Rattle.subject_rules.specs.Text.{tokens, joined, is_star, is_tail}
 use Rattle.subject_rules.specs.Answers.{Answer, answer}
 use Rattle.subject_rules.specs.Grammar.{bad_char, first_of, bad_chars, bad_token, tail_at, check, grammar}
-use Rattle.subject_rules.proofs.Depths.{number, not_refused, bad_token_lem, under, passed, passes}
+use Rattle.subject_rules.proofs.Booleans.{or_right}
+use Rattle.subject_rules.proofs.Depths.{not_refused, bad_token_lem, under, passed, passes}
 use Rattle.subject_rules.proofs.Pieces.{NoDot}
 use Rattle.sublist_tree.specs.Lists.{All}
 use Rattle.sublist_tree.proofs.Bytes.{All-map}
@@ -83,11 +84,7 @@ unbarred_literal [] u w j = u j
 unbarred_literal (b ∷ bs) u w j = rw w (rw w at (u j))
 
 pub not_tail : (t : List ℕ) → is_wild t ≡ false → is_tail t ≡ false
-not_tail t e = go (is_star t) e
-  where
-    go : (s : Bool) → or s (is_tail t) ≡ false → is_tail t ≡ false
-    go true e = absurd (cc)
-    go false e = e
+not_tail t = or_right (is_star t) (is_tail t)
 
 -- nothing stands behind a `>`
 abbrev pub TailLast : List (List ℕ) → Type 0
@@ -140,7 +137,7 @@ module _ (wild : Bool) (ts : List (List ℕ)) (a : All (Legal wild) ts) (some' :
 
 none_behind : (wild b : Bool) (index at : ℕ) (ts : List (List ℕ)) (vs : List ℕ) → check wild (tail_at b at) index ts ≡ answer 0 vs → b ≡ true → ts ≡ []
 none_behind wild true index at [] vs e h = refl
-none_behind wild true index at (t ∷ ts) vs e h = let z : ⊥ = omega (arith, ap number e) in absurd z
+none_behind wild true index at (t ∷ ts) vs e h = absurd (cc)
 none_behind wild false index at ts vs e h = absurd (cc)
 
 pub record Checked (wild : Bool) (ts : List (List ℕ)) : Type 0 where
@@ -151,7 +148,7 @@ pub record Checked (wild : Bool) (ts : List (List ℕ)) : Type 0 where
 checked_behind : (wild b : Bool) (index at : ℕ) (ts : List (List ℕ)) (vs : List ℕ) → check wild (tail_at b at) index ts ≡ answer 0 vs
     → (check wild none index ts ≡ answer 0 vs → Checked wild ts) → Checked wild ts
 checked_behind wild true index at [] vs e h = record { unbarred = tt; tail_last = tt }
-checked_behind wild true index at (t ∷ ts) vs e h = let z : ⊥ = omega (arith, ap number e) in absurd z
+checked_behind wild true index at (t ∷ ts) vs e h = absurd (cc)
 checked_behind wild false index at ts vs e h = h e
 
 checked : (wild : Bool) (index : ℕ) (ts : List (List ℕ)) (vs : List ℕ) → index ≤ 32 → check wild none index ts ≡ answer 0 vs → Checked wild ts

@@ -6,14 +6,11 @@ use mathlib.Core.List.{List}
 use mathlib.Core.Option.{Option, none, some}
 use Rattle.subject_rules.specs.Choice.{pick, or}
 use Rattle.subject_rules.specs.Text.{is_star, is_tail, same}
+use Rattle.subject_rules.proofs.Booleans.{or_false}
 use Rattle.crossing_rules.specs.Crossing.{is_wild, meet}
 
 pub wild_star : (t : List ℕ) → is_tail t ≡ false → is_wild t ≡ is_star t
-wild_star t n = rw n (go (is_star t))
-  where
-    go : (s : Bool) → or s false ≡ s
-    go true = refl
-    go false = refl
+wild_star t n = rw n (or_false (is_star t))
 
 -- the token of two, neither of them `>`: by the ways through `meet`
 module _ (filler p q : List ℕ) (pn : is_tail p ≡ false) (qn : is_tail q ≡ false) (P : Option (List ℕ) → Type 0) where

@@ -1,6 +1,5 @@
 -- The call `crossing` says that there is none exactly where there is none.
 use Prim.Native.Nat.{ℕ}
-use native.Mathlib.Omega.{arith}
 use mathlib.Core.Path.{◌≡◌, refl, sym}
 use mathlib.Core.List.{List, [], ◌∷◌}
 use mathlib.Core.Logic.{◌↔◌}
@@ -16,8 +15,8 @@ module _ (first second out : List ℕ) where
   none_exactly f s = (said-apart (crossing-asked first second out), λ n. sym (crossing-only first second out _ (apart f s n refl)))
     where
       said-apart : {filler : List ℕ} {o : Outcome} → Asked filler first second out o → o ≡ outcome (answer 0 (0 ∷ [])) out → Apart first second
-      said-apart (first_refused a r e) h = let z : ◌≡◌ {A = ℕ} 0 1 = cc r.refusal in absurd (omega arith)
-      said-apart (second_refused a f r e) h = let z : ◌≡◌ {A = ℕ} 0 1 = cc r.refusal in absurd (omega arith)
+      said-apart (first_refused a r e) h = absurd (cc r.refusal)
+      said-apart (second_refused a f r e) h = absurd (cc r.refusal)
       said-apart (apart f s n e) h = n
       said-apart (out_short t f s w l e) h = absurd (cc)
       said-apart (shown t f s w l e) h = absurd (cc)

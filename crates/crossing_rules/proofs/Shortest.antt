@@ -7,10 +7,11 @@ use mathlib.Core.Bool.{Bool, true, false}
 use mathlib.Core.List.{List, [], ◌∷◌, map}
 use mathlib.Core.Option.{Option, none, some}
 use lib.ListN.{length, get_or}
-use Rattle.subject_rules.specs.Choice.{pick, or}
+use Rattle.std.proofs.lemmas.Bool.{true≢false}
+use Rattle.subject_rules.specs.Choice.{pick}
 use Rattle.subject_rules.specs.Text.{is_star, is_tail}
 use Rattle.subject_rules.specs.Matching.{match_tokens}
-use Rattle.subject_rules.proofs.Booleans.{and_both}
+use Rattle.subject_rules.proofs.Booleans.{and_both, or_true}
 use Rattle.sublist_tree.specs.Lists.{All}
 use Rattle.sublist_tree.proofs.Bytes.{same-sound, same_whole}
 use Rattle.crossing_rules.specs.Crossing.{plain, meet, followed, common}
@@ -20,10 +21,10 @@ use Rattle.crossing_rules.proofs.Legal.{TailLast}
 use Rattle.crossing_rules.proofs.Common.{If, Is, by_tokens, fits}
 use Rattle.crossing_rules.proofs.Meeting.{wild_star, by_meeting}
 
-never : true ≡ false → ⊥
-never e = let z : ◌≡◌ {A = ℕ} 0 1 = cc in omega arith
-
 -- ---- one token
+
+plain-tail : (filler q : List ℕ) → is_tail q ≡ true → plain filler q ≡ filler
+plain-tail filler q e = rw (e, or_true (is_star q))
 
 -- what a subject's token is that a pattern's token, not `>`, and the rest match
 matched_on : (p u : List ℕ) (ps us : List (List ℕ)) → is_tail p ≡ false → match_tokens (p ∷ ps) (u ∷ us) ≡ true → (fits p u ≡ true) × (match_tokens ps us ≡ true)
@@ -49,7 +50,7 @@ module _ (filler u : List ℕ) (P : List ℕ → Type 0) (at_u : P u) where
       (λ s t. rw (fits_literal q u t h) at_u)
       (λ s t. rw (fits_literal p u s f) at_u)
       (λ s t c. rw (fits_literal p u s f) at_u)
-      (λ s t c. never (sym (same_whole u) ∙ (rw (fits_literal p u s f, fits_literal q u t h) at c)))
+      (λ s t c. true≢false (sym (same_whole u) ∙ (rw (fits_literal p u s f, fits_literal q u t h) at c)))
 
 -- ---- the fewest bytes
 
@@ -59,18 +60,11 @@ module _ (filler : List ℕ) (one : length filler ≡ 1) where
 
   rest-short : (qs us : List (List ℕ)) → TailLast qs → match_tokens qs us ≡ true → Filled us → size (map (plain filler) qs) ≤ size us
   rest-short [] us l m a = omega arith
-  rest-short (q ∷ qs) [] l m a = absurd (never (sym m))
+  rest-short (q ∷ qs) [] l m a = absurd (cc)
   rest-short (q ∷ qs) (u ∷ us) l m a = go (is_tail q) refl (λ x. rest-short qs us l.1 x a.1)
     where
-      tail : is_tail q ≡ true → length (plain filler q) ≡ 1
-      tail e = rw e (rest (is_star q))
-        where
-          rest : (s : Bool) → length (pick (or s true) filler q) ≡ 1
-          rest true = one
-          rest false = one
-
       go : (b : Bool) → is_tail q ≡ b → (match_tokens qs us ≡ true → size (map (plain filler) qs) ≤ size us) → size (map (plain filler) (q ∷ qs)) ≤ size (u ∷ us)
-      go true e h = rw (l.0 e) (omega (arith, tail e, a.0))
+      go true e h = rw (l.0 e) (omega (arith, ap length (plain-tail filler q e), one, a.0))
       go false e h =
           let r = matched_on q u qs us e m in
           let k : length (plain filler q) ≤ length u = plain_with filler u (λ t. length t ≤ length u) (omega arith) q e r.0 (λ s. omega (arith, a.0)) in
@@ -86,11 +80,11 @@ module _ (filler : List ℕ) (one : length filler ≡ 1) where
   pub common-short : (ps qs us : List (List ℕ)) → TailLast ps → TailLast qs → match_tokens ps us ≡ true → match_tokens qs us ≡ true → Filled us
       → Is (λ ts. size ts ≤ size us) (common filler ps qs)
   common-short [] [] us l k m n a = omega arith
-  common-short [] (q ∷ qs) [] l k m n a = never (sym n)
-  common-short [] (q ∷ qs) (u ∷ us) l k m n a = never (sym m)
-  common-short (p ∷ ps) [] [] l k m n a = never (sym m)
-  common-short (p ∷ ps) [] (u ∷ us) l k m n a = never (sym n)
-  common-short (p ∷ ps) (q ∷ qs) [] l k m n a = absurd (never (sym m))
+  common-short [] (q ∷ qs) [] l k m n a = cc
+  common-short [] (q ∷ qs) (u ∷ us) l k m n a = cc
+  common-short (p ∷ ps) [] [] l k m n a = cc
+  common-short (p ∷ ps) [] (u ∷ us) l k m n a = cc
+  common-short (p ∷ ps) (q ∷ qs) [] l k m n a = absurd (cc)
   common-short (p ∷ ps) (q ∷ qs) (u ∷ us) l k m n a =
       by_tokens filler p ps q qs (Is (λ ts. size ts ≤ size (u ∷ us)))
       (λ e. rest-short (q ∷ qs) (u ∷ us) k n a)
@@ -109,11 +103,7 @@ abbrev pub FilledAt : List ℕ → List (List ℕ) → List (List ℕ) → List 
 FilledAt filler ps qs us = (i : ℕ) → i < length us → wild_at ps i ≡ true → wild_at qs i ≡ true → get_or us i [] ≡ filler
 
 wild_tail : (p : List ℕ) (ps : List (List ℕ)) (i : ℕ) → is_tail p ≡ true → wild_at (p ∷ ps) i ≡ true
-wild_tail p ps zero e = rw e (go (is_star p))
-  where
-    go : (s : Bool) → or s true ≡ true
-    go true = refl
-    go false = refl
+wild_tail p ps zero e = rw e (or_true (is_star p))
 wild_tail p ps (suc i) e = rw e
 
 -- behind a token that is no `>`
@@ -122,13 +112,6 @@ wild_on p ps i n w = rw n w
 
 wild_off : (p : List ℕ) (ps : List (List ℕ)) (i : ℕ) → is_tail p ≡ false → wild_at (p ∷ ps) (suc i) ≡ true → wild_at ps i ≡ true
 wild_off p ps i n w = rw n at w
-
-plain-tail : (filler q : List ℕ) → is_tail q ≡ true → plain filler q ≡ filler
-plain-tail filler q e = rw e (go (is_star q))
-  where
-    go : (s : Bool) → pick (or s true) filler q ≡ filler
-    go true = refl
-    go false = refl
 
 size_none : (us : List (List ℕ)) → size us ≤ 0 → us ≡ []
 size_none [] h = refl
@@ -168,17 +151,17 @@ module _ (filler : List ℕ) where
       (λ e g. followed-filled p q ps qs e g (meet filler p q) (common filler ps qs)
       (by_meeting filler p q e g (If (λ t. is_star p ≡ true → is_star q ≡ true → t ≡ filler))
       (λ s t u v. refl)
-      (λ s t u v. absurd (never (sym v ∙ t)))
-      (λ s t u v. absurd (never (sym u ∙ s)))
-      (λ s t c u v. absurd (never (sym u ∙ s)))
+      (λ s t u v. absurd (cc))
+      (λ s t u v. absurd (cc))
+      (λ s t c u v. absurd (cc))
       (λ s t c. tt))
       rest)
 
   rest-only : (qs us : List (List ℕ)) → TailLast qs → match_tokens qs us ≡ true → ((i : ℕ) → i < length us → wild_at qs i ≡ true → get_or us i [] ≡ filler)
       → size us ≤ size (map (plain filler) qs) → us ≡ map (plain filler) qs
   rest-only [] [] l m f h = refl
-  rest-only [] (u ∷ us) l m f h = absurd (never (sym m))
-  rest-only (q ∷ qs) [] l m f h = absurd (never (sym m))
+  rest-only [] (u ∷ us) l m f h = absurd (cc)
+  rest-only (q ∷ qs) [] l m f h = absurd (cc)
   rest-only (q ∷ qs) (u ∷ us) l m f h = go (is_tail q) refl (rest-only qs us l.1)
     where
       go : (b : Bool) → is_tail q ≡ b
@@ -209,7 +192,7 @@ module _ (filler : List ℕ) where
   common-only [] [] us l k m n f = size_none us
   common-only [] (q ∷ qs) us l k m n f = tt
   common-only (p ∷ ps) [] us l k m n f = tt
-  common-only (p ∷ ps) (q ∷ qs) [] l k m n f = absurd (never (sym m))
+  common-only (p ∷ ps) (q ∷ qs) [] l k m n f = absurd (cc)
   common-only (p ∷ ps) (q ∷ qs) (u ∷ us) l k m n f =
       by_tokens filler p ps q qs (If (λ ts. size (u ∷ us) ≤ size ts → u ∷ us ≡ ts))
       (λ e h. rest-only (q ∷ qs) (u ∷ us) k n (λ i x w. f i x (wild_tail p ps i e) w) h)

@@ -1,5 +1,6 @@
 // The load maker: patterns and subjects that are the same on every bench. Not in the original.
-// The count of tokens is drawn on a copy of the state, before the output is measured: a refusal gives back the one lent.
+// The count of tokens is drawn on a copy of the state, before the output is measured: a refusal gives back the one
+// lent.
 #![tactic(auto)]
 
 ghost use Rattle.std.specs.Prelude.{◌≡◌, ◌+◌, ◌*◌, ◌≤◌, true, false, length};
@@ -57,6 +58,8 @@ fn token_byte(wild: bool, last: bool, drawn: u64) -> u8
 }
 
 // So many tokens, drawn one behind another, with a dot between each two; the state afterwards.
+// Kept: tried over `out.chunks_mut(2)`: the loop's invariant has no name for what `out` holds by then, and the goal
+// stays that `out` has the tokens (`returns`).
 #[tactic(auto, using(crate::proofs::Putting::turns))]
 fn put_tokens(wild: bool, count: usize, from: u64, out: &mut [u8]) -> u64
     requires { (count ≤ 6)
@@ -104,7 +107,8 @@ fn make(wild: bool, state: u64, out: &mut [u8]) -> MadeText
 }
 
 // A pattern is made from a state. A refusal leaves the output and gives the state back.
-// Kept: C calls this and `make_subject` by these names; one function with a flag would read no plainer there.
+// Kept: C's calls `router_make_pattern` and `router_make_subject` each call one of this and `make_subject`; one
+// function with a flag would read no plainer there.
 pub fn make_pattern(state: u64, out: &mut [u8]) -> MadeText
     ensures { made_by result out.new ≡ make true state out.old }
 {

@@ -22,7 +22,7 @@ use router_c::{
     router_snapshot_match, router_snapshot_new, router_store,
 };
 use std::io::Read;
-use std::{fmt, io};
+use std::{fmt, io, iter};
 
 // ---- The kinds of records.
 
@@ -238,14 +238,7 @@ struct Left {
     ghost one_of_two: { which ≤ 1 },
 }
 
-// It, and what is left of the record: what the call takes, and what else it gave.
-#[derive(Clone, Copy)]
-struct Record<'a> {
-    answer: Recorded,
-    fields: Fields<'a>,
-}
-
-// Kept: the number of the answer that is said for a record of no kind, for which no call is made. No record has it.
+// Kept: a program says what it always said: this number, which no record has, for a record of no kind. No call is made.
 const NO_ANSWER: u64 = 256;
 
 // ---- What is counted: all records, those of each kind at its number, and the differences; and what is said of a
@@ -274,7 +267,8 @@ impl<'a, R: Print> Tally<'a, R> {
         *count = count.wrapping_add(1);
     }
 
-    // Kept: 18 counts as a record more and 19 as a difference, as when all counts stood in one array by these numbers.
+    // Kept: it counts as it always did: 18 as a record more and 19 as a difference, as when all counts stood in one
+    // array by these numbers.
     fn count_no_kind(&mut self, NoKind(number): NoKind) {
         match number {
             18 => self.records = self.records.wrapping_add(1),
@@ -300,36 +294,6 @@ impl<'a, R: Print> Tally<'a, R> {
         )
     }
 
-    fn hold_answer(&mut self, came: CAnswer, recorded: Recorded) -> io::Result<()> {
-        self.hold(came.number, recorded.number)?;
-        self.hold(came.first, recorded.first)?;
-        self.hold(came.second, recorded.second)
-    }
-
-    // Holds an answer, and its third value to the generation that stands next.
-    fn hold_stamped(&mut self, came: CAnswer, record: &mut Record<'_>) -> io::Result<()> {
-        self.hold_answer(came, record.answer)?;
-        self.hold(came.third, record.fields.number())
-    }
-
-    // Holds the length of a list, and what the output starts with to as many words as are recorded.
-    fn hold_list(&mut self, length: u64, recorded: Words<'_>, out: &Targets) -> io::Result<()> {
-        let mut words = recorded.fields;
-        self.hold(length, recorded.count)?;
-        for i in 0..recorded.count.value {
-            let target = out.get(usize::from(i)).copied().unwrap_or_default();
-            self.hold(u64::from(target), words.word())?;
-        }
-        Ok(())
-    }
-
-    // Holds a cache to what a record says of it.
-    fn hold_cache(&mut self, cache: &CCache, left: Left) -> io::Result<()> {
-        self.hold(cache.used as u64, left.subjects)?;
-        self.hold(cache.walks, left.walks)?;
-        self.hold(cache.generation, left.generation)
-    }
-
     fn report(&self) -> io::Result<()> {
         let rt = self.rt;
         for kind in KINDS {
@@ -338,6 +302,47 @@ impl<'a, R: Print> Tally<'a, R> {
         }
         println!(rt; "records {}", self.records)?;
         println!(rt; "differences {}", self.differences)
+    }
+}
+
+// A record whose call is made: the answer recorded, what is left of it (what the call takes, and what else it gave),
+// and where what comes out is counted.
+#[derive(Drop)]
+struct Record<'r, 'a, R> {
+    answer: Recorded,
+    fields: Fields<'r>,
+    tally: &'r mut Tally<'a, R>,
+}
+
+impl<R: Print> Record<'_, '_, R> {
+    fn hold_answer(&mut self, came: CAnswer) -> io::Result<()> {
+        self.tally.hold(came.number, self.answer.number)?;
+        self.tally.hold(came.first, self.answer.first)?;
+        self.tally.hold(came.second, self.answer.second)
+    }
+
+    // Holds an answer, and its third value to the generation that stands next.
+    fn hold_stamped(&mut self, came: CAnswer) -> io::Result<()> {
+        self.hold_answer(came)?;
+        self.tally.hold(came.third, self.fields.number())
+    }
+
+    // Holds the length of a list, and what the output starts with to as many words as are recorded.
+    fn hold_list(&mut self, length: u64, recorded: Words<'_>, out: &Targets) -> io::Result<()> {
+        let mut words = recorded.fields;
+        self.tally.hold(length, recorded.count)?;
+        let came = out.iter().copied().chain(iter::repeat(0));
+        for target in came.take(usize::from(recorded.count.value)) {
+            self.tally.hold(u64::from(target), words.word())?;
+        }
+        Ok(())
+    }
+
+    // Holds a cache to what the record says of it.
+    fn hold_cache(&mut self, cache: &CCache, left: Left) -> io::Result<()> {
+        self.tally.hold(cache.used as u64, left.subjects)?;
+        self.tally.hold(cache.walks, left.walks)?;
+        self.tally.hold(cache.generation, left.generation)
     }
 }
 
@@ -367,6 +372,7 @@ const KEPT_WORDS: usize = SLOTS * MOST_KEPT;
 type Targets = [u32; ENTRIES];
 
 // The list, and the table that was built last.
+// Kept: the program `vectors` has such a list too; programs share only libraries, and one more for it is no plainer.
 #[derive(Drop)]
 struct List {
     entries: usize,
@@ -591,8 +597,9 @@ impl Cache {
         self.shown(CAnswer::new(0, &[]), out)
     }
 
-    // Kept: where an answer's first value is 0, the slot that its second names goes over the output, with zeros behind
-    // the last slot: lists that are recorded as longer than they come are held to what the output has there.
+    // Kept: it says what it always said of a list that is recorded as longer than it comes, which is held to what the
+    // output has there: where an answer's first value is 0, the slot that its second names goes over the output, with
+    // zeros behind the last slot.
     fn shown(&self, given: CAnswer, out: &mut Targets) -> CAnswer {
         if given.first == 0 {
             let kept = self.kept.get(given.second as usize..).unwrap_or_default();
@@ -615,6 +622,8 @@ impl Cache {
         self.shown(CAnswer::new(r.number, &[r.first, r.second, r.third]), out)
     }
 
+    // Kept: `verdict` differs in the call alone. One method that takes the call was tried: another crate's function,
+    // passed by its name, gets no proof (`router_resolve+FnOnce::call_once`), and a closure names its eight parameters.
     fn resolve(&mut self, standing: &Standing, subject: &[u8], out: &mut Targets) -> CAnswer {
         let given = router_resolve(
             self.state,
@@ -664,83 +673,66 @@ impl Router {
     }
 
     // Makes the call of a record and holds what it gives.
-    fn call<R: Print>(
-        &mut self,
-        tally: &mut Tally<'_, R>,
-        kind: Kind,
-        mut record: Record<'_>,
-    ) -> io::Result<()> {
+    fn call<R: Print>(&mut self, kind: Kind, record: &mut Record<'_, '_, R>) -> io::Result<()> {
         let fields = record.fields;
-        let recorded = record.answer;
         match kind {
-            Kind::ParseLiteral => tally.hold_answer(router_parse_literal(fields.rest()), recorded),
-            Kind::Parse => tally.hold_answer(router_parse(fields.rest()), recorded),
-            Kind::Matches => tally.hold_answer(matches(fields), recorded),
-            Kind::SingleHome => tally.hold_answer(single_home(fields, &mut self.out), recorded),
-            Kind::NewList => tally.hold_answer(self.list.begin(), recorded),
-            Kind::Insert => tally.hold_answer(self.list.insert(fields), recorded),
-            Kind::Build => self.build(tally, record),
-            Kind::MatchTable => self.match_table(tally, record),
-            Kind::NewSnapshot => tally.hold_stamped(self.standing.begin(&self.list), &mut record),
-            Kind::EmptySnapshot => tally.hold_stamped(self.standing.begin_empty(), &mut record),
-            Kind::Store => self.store(tally, record),
-            Kind::MatchSnapshot => self.match_snapshot(tally, record),
-            Kind::Verdict => tally.hold_answer(self.verdict(fields), recorded),
-            Kind::NewCache => self.new_cache(tally, record),
-            Kind::Clear => self.clear(tally, record),
-            Kind::Resolve => self.resolve(tally, record),
-            Kind::CachedVerdict => self.cached_verdict(tally, record),
+            Kind::ParseLiteral => record.hold_answer(router_parse_literal(fields.rest())),
+            Kind::Parse => record.hold_answer(router_parse(fields.rest())),
+            Kind::Matches => record.hold_answer(matches(fields)),
+            Kind::SingleHome => record.hold_answer(single_home(fields, &mut self.out)),
+            Kind::NewList => record.hold_answer(self.list.begin()),
+            Kind::Insert => record.hold_answer(self.list.insert(fields)),
+            Kind::Build => self.build(record),
+            Kind::MatchTable => self.match_table(record),
+            Kind::NewSnapshot => record.hold_stamped(self.standing.begin(&self.list)),
+            Kind::EmptySnapshot => record.hold_stamped(self.standing.begin_empty()),
+            Kind::Store => self.store(record),
+            Kind::MatchSnapshot => self.match_snapshot(record),
+            Kind::Verdict => record.hold_answer(self.verdict(fields)),
+            Kind::NewCache => self.new_cache(record),
+            Kind::Clear => self.clear(record),
+            Kind::Resolve => self.resolve(record),
+            Kind::CachedVerdict => self.cached_verdict(record),
         }
     }
 
     // The generation.
-    fn build<R: Print>(
-        &mut self,
-        tally: &mut Tally<'_, R>,
-        mut record: Record<'_>,
-    ) -> io::Result<()> {
+    fn build<R: Print>(&mut self, record: &mut Record<'_, '_, R>) -> io::Result<()> {
         let generation = record.fields.number();
         let given = self.list.build(generation.value);
-        tally.hold_answer(given, record.answer)?;
+        record.hold_answer(given)?;
         if given.number != 0 {
             return Ok(());
         }
-        tally.hold(given.third, generation)
+        record.tally.hold(given.third, generation)
     }
 
     // The list, then the subject.
-    fn match_table<R: Print>(
-        &mut self,
-        tally: &mut Tally<'_, R>,
-        mut record: Record<'_>,
-    ) -> io::Result<()> {
-        let list = record.fields.list();
-        let given = self.list.find(record.fields.rest(), &mut self.out);
-        tally.hold_answer(given, record.answer)?;
-        tally.hold_list(length_of(given), list, &self.out)
+    fn match_table<R: Print>(&mut self, record: &mut Record<'_, '_, R>) -> io::Result<()> {
+        let mut fields = record.fields;
+        let list = fields.list();
+        let given = self.list.find(fields.rest(), &mut self.out);
+        record.hold_answer(given)?;
+        record.hold_list(length_of(given), list, &self.out)
     }
 
-    fn store<R: Print>(
-        &mut self,
-        tally: &mut Tally<'_, R>,
-        mut record: Record<'_>,
-    ) -> io::Result<()> {
-        tally.hold_stamped(self.standing.store(&self.list), &mut record)?;
-        tally.hold(self.standing.snapshot.generation, record.fields.number())
+    fn store<R: Print>(&mut self, record: &mut Record<'_, '_, R>) -> io::Result<()> {
+        record.hold_stamped(self.standing.store(&self.list))?;
+        let generation = record.fields.number();
+        record
+            .tally
+            .hold(self.standing.snapshot.generation, generation)
     }
 
     // The generation, the list, then the subject.
-    fn match_snapshot<R: Print>(
-        &mut self,
-        tally: &mut Tally<'_, R>,
-        mut record: Record<'_>,
-    ) -> io::Result<()> {
-        let generation = record.fields.number();
-        let list = record.fields.list();
-        let given = self.standing.find(record.fields.rest(), &mut self.out);
-        tally.hold_answer(given, record.answer)?;
-        tally.hold(given.third, generation)?;
-        tally.hold_list(length_of(given), list, &self.out)
+    fn match_snapshot<R: Print>(&mut self, record: &mut Record<'_, '_, R>) -> io::Result<()> {
+        let mut fields = record.fields;
+        let generation = fields.number();
+        let list = fields.list();
+        let given = self.standing.find(fields.rest(), &mut self.out);
+        record.hold_answer(given)?;
+        record.tally.hold(given.third, generation)?;
+        record.hold_list(length_of(given), list, &self.out)
     }
 
     // The subject.
@@ -749,61 +741,56 @@ impl Router {
     }
 
     // The cache, then the capacity asked for.
-    fn new_cache<R: Print>(
-        &mut self,
-        tally: &mut Tally<'_, R>,
-        mut record: Record<'_>,
-    ) -> io::Result<()> {
-        let left = record.fields.cache();
-        let cache = &mut self.caches[left.which];
-        let given = cache.begin(record.fields.word().value, &mut self.out);
-        tally.hold_answer(given, record.answer)?;
-        tally.hold_cache(&cache.state, left)
+    fn new_cache<R: Print>(&mut self, record: &mut Record<'_, '_, R>) -> io::Result<()> {
+        self.on_cache(
+            record,
+            |cache, _, mut fields, out| cache.begin(fields.word().value, out),
+        )
     }
 
     // The cache.
-    fn clear<R: Print>(
-        &mut self,
-        tally: &mut Tally<'_, R>,
-        mut record: Record<'_>,
-    ) -> io::Result<()> {
-        let left = record.fields.cache();
-        let cache = &mut self.caches[left.which];
-        let given = cache.clear(&mut self.out);
-        tally.hold_answer(given, record.answer)?;
-        tally.hold_cache(&cache.state, left)
+    fn clear<R: Print>(&mut self, record: &mut Record<'_, '_, R>) -> io::Result<()> {
+        self.on_cache(record, |cache, _, _, out| cache.clear(out))
     }
 
     // The cache, the list, then the subject. The original says how long the list of a resolve is, and not where it
     // lies.
-    fn resolve<R: Print>(
-        &mut self,
-        tally: &mut Tally<'_, R>,
-        mut record: Record<'_>,
-    ) -> io::Result<()> {
-        let left = record.fields.cache();
-        let list = record.fields.list();
+    // Kept: not by `on_cache`: the list is read behind the cache, and held between the answer and the cache.
+    fn resolve<R: Print>(&mut self, record: &mut Record<'_, '_, R>) -> io::Result<()> {
+        let mut fields = record.fields;
+        let left = fields.cache();
+        let list = fields.list();
         let cache = &mut self.caches[left.which];
-        let mut given = cache.resolve(&self.standing, record.fields.rest(), &mut self.out);
+        let mut given = cache.resolve(&self.standing, fields.rest(), &mut self.out);
         if given.number == 0 {
             given = CAnswer::new(0, &[given.third]);
         }
-        tally.hold_answer(given, record.answer)?;
-        tally.hold_list(length_of(given), list, &self.out)?;
-        tally.hold_cache(&cache.state, left)
+        record.hold_answer(given)?;
+        record.hold_list(length_of(given), list, &self.out)?;
+        record.hold_cache(&cache.state, left)
     }
 
     // The cache, then the subject.
-    fn cached_verdict<R: Print>(
+    fn cached_verdict<R: Print>(&mut self, record: &mut Record<'_, '_, R>) -> io::Result<()> {
+        self.on_cache(
+            record,
+            |cache, standing, fields, out| cache.verdict(standing, fields.rest(), out),
+        )
+    }
+
+    // The cache, then what a call on it takes: holds what the call gives, and the cache as it leaves it.
+    fn on_cache<R: Print, C: FnOnce(&mut Cache, &Standing, Fields<'_>, &mut Targets) -> CAnswer>(
         &mut self,
-        tally: &mut Tally<'_, R>,
-        mut record: Record<'_>,
-    ) -> io::Result<()> {
+        record: &mut Record<'_, '_, R>,
+        call: C,
+    ) -> io::Result<()>
+        requires { C.IsAlwaysCallable call }
+    {
         let left = record.fields.cache();
         let cache = &mut self.caches[left.which];
-        let given = cache.verdict(&self.standing, record.fields.rest(), &mut self.out);
-        tally.hold_answer(given, record.answer)?;
-        tally.hold_cache(&cache.state, left)
+        let given = call(cache, &self.standing, record.fields, &mut self.out);
+        record.hold_answer(given)?;
+        record.hold_cache(&cache.state, left)
     }
 }
 
@@ -847,22 +834,20 @@ fn replay_record<R: Print>(
 ) -> io::Result<()> {
     tally.records = tally.records.wrapping_add(1);
     let number = fields.byte().value;
-    let recorded = fields.answer();
+    let answer = fields.answer();
+    let mut record = Record {
+        answer,
+        fields,
+        tally,
+    };
     match Kind::try_from(number) {
         Ok(kind) => {
-            tally.count(kind);
-            router.call(
-                tally,
-                kind,
-                Record {
-                    answer: recorded,
-                    fields,
-                },
-            )
+            record.tally.count(kind);
+            router.call(kind, &mut record)
         }
         Err(no_kind) => {
-            tally.count_no_kind(no_kind);
-            tally.hold_answer(CAnswer::new(NO_ANSWER, &[]), recorded)
+            record.tally.count_no_kind(no_kind);
+            record.hold_answer(CAnswer::new(NO_ANSWER, &[]))
         }
     }
 }

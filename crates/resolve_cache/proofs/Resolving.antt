@@ -1,9 +1,8 @@
 -- What a resolve is, by the tests that it makes in turn: a refusal, a hit or a walk.
-use Rattle.std.proofs.Common.{◌≡◌, ℕ, zero, suc, ◌+◌, ◌*◌, ◌<◌, ◌≤◌, Bool, true, false, eqb, ltb, List, [], ◌∷◌, length, get_or, Some, None, sym, refl, ap, ◌∙◌, subst, arith, ltb-false, le-ltb, lt-ltb}
+use Rattle.std.proofs.Common.{◌≡◌, ℕ, ◌+◌, ◌*◌, ◌<◌, ◌≤◌, true, false, ltb, List, [], ◌∷◌, length, get_or, sym, refl, ap, ◌∙◌, subst, arith, le-ltb, lt-ltb}
 use mathlib.Core.Option as stated
 use mathlib.Core.Option.{none, some}
-use borrow.Author.Tests.{eqb-true, eqb-false}
-use Rattle.subject_rules.specs.Choice.{pick, or}
+use Rattle.subject_rules.specs.Choice.{pick}
 use Rattle.subject_rules.specs.Answers.{answer}
 use Rattle.subject_rules.specs.Grammar.{grammar}
 use Rattle.sublist_snapshot.specs.declared.Generation.{Generation}
@@ -11,58 +10,29 @@ use Rattle.sublist_snapshot.specs.declared.Snapshot.{Snapshot}
 use Rattle.sublist_snapshot.specs.Snapshot.{stands_in, walk_of}
 use Rattle.resolve_cache_rules.specs.declared.ResolveCache.{ResolveCache}
 use Rattle.resolve_cache_rules.specs.Area.{Area, key_length, target_count, touch}
-use Rattle.resolve_cache_rules.specs.Cache.{short, bad_from, bad, keeps_at, find_from, emptied, adopt, ticked, hit, in_kept}
+use Rattle.resolve_cache_rules.specs.Cache.{short, bad, find_from, adopt, ticked, hit, in_kept}
 use Rattle.resolve_cache_rules.specs.Cache.{Resolved, unchanged, if_accepted, miss, work_by, work, resolve}
 use Rattle.resolve_cache_rules.specs.Ready.{Wide, Ready, Small, Accepted}
-use Rattle.resolve_cache_rules.proofs.Slots.{or_false, short-wide}
+use Rattle.resolve_cache_rules.proofs.Slots.{not_bad, short-wide, find-sound}
+use Rattle.resolve_cache_rules.proofs.Keeps.{adopted_by}
 use Rattle.subject.specs.Answers.{refusal}
 use Rattle.subject.specs.declared.SubjectError.{SubjectError}
 use Rattle.resolve_cache.specs.declared.ResolveError.TheVariants.{Invalid}
 use Rattle.resolve_cache.proofs.Refusals.{refusal-number}
-use Rattle.resolve_cache.specs.Deciding.{Absent, FirstOf}
 
--- 18 does not apply
-module _ (c : ResolveCache) (a : Area) (b : bad c a ≡ false) where
-  parts : (eqb c.capacity 0 ≡ false) × (or (ltb c.capacity c.used) (bad_from c.capacity a.keys 0 c.used) ≡ false)
-  parts = or_false (eqb c.capacity 0) (or (ltb c.capacity c.used) (bad_from c.capacity a.keys 0 c.used)) b
-
-  rest : (ltb c.capacity c.used ≡ false) × (bad_from c.capacity a.keys 0 c.used ≡ false)
-  rest = or_false (ltb c.capacity c.used) (bad_from c.capacity a.keys 0 c.used) parts.1
-
-  good_ready : Wide c.capacity a → Ready c a
-  good_ready r = record { any = omega (arith, eqb-false c.capacity 0 parts.0); fits = ltb-false c.capacity c.used rest.0; wide = r }
+-- 17 and 18 do not apply
+good_ready : (c : ResolveCache) (a : Area) → bad c a ≡ false → Wide c.capacity a → Ready c a
+good_ready c a b w = let g = not_bad c a b in record { any = g.0; fits = g.1; wide = w }
 
 -- the cache on a generation uses no more slots, and has the same capacity
 adopt-used : (g : Generation) (c : ResolveCache) → ((adopt g c).used ≤ c.used) × ((adopt g c).capacity ≡ c.capacity)
-adopt-used g c = go (eqb c.generation.0 g.0)
-  where
-    go : (b : Bool) → ((pick b c (emptied g c)).used ≤ c.used) × ((pick b c (emptied g c)).capacity ≡ c.capacity)
-    go true = (omega arith, refl)
-    go false = (omega arith, refl)
+adopt-used g c = adopted_by g c (λ d. (d.used ≤ c.used) × (d.capacity ≡ c.capacity)) (λ _. (omega arith, refl)) (λ _. (omega arith, refl))
 
 -- the cache on a generation has room too, and no bad slot
 module _ (g : Generation) (c e : ResolveCache) (a : Area) (on : e ≡ adopt g c) where
   ready_current : Ready c a → Ready e a
   ready_current r =
       rw on (record { any = omega (arith, r.any, (adopt-used g c).1); fits = omega (arith, r.fits, (adopt-used g c).0, (adopt-used g c).1); wide = rw (adopt-used g c).1 r.wide })
-
--- the first slot that keeps a subject, by what is known of each
-module _ (c : ℕ) (keys subject : List ℕ) where
-  pub absent-none : (from n : ℕ) → Absent c keys subject from (from + n) → find_from c keys subject from n ≡ none
-  absent-none from zero h = refl
-  absent-none from (suc n) h = rw (h from (omega arith) (omega arith)) (absent-none (suc from) n (λ i k l. h i (omega arith) (omega arith)))
-
-  pub first-some : (from n i : ℕ) → from ≤ i → i < from + n → keeps_at c keys subject i ≡ true → Absent c keys subject from i → find_from c keys subject from n ≡ some i
-  first-some from zero i after before here others = absurd (omega arith)
-  first-some from (suc n) i after before here others = go (eqb from i) refl (first-some (suc from) n i)
-    where
-      go : (b : Bool) → eqb from i ≡ b
-          → (suc from ≤ i → i < suc from + n → keeps_at c keys subject i ≡ true → Absent c keys subject (suc from) i → find_from c keys subject (suc from) n ≡ some i)
-          → pick (keeps_at c keys subject from) (some from) (find_from c keys subject (suc from) n) ≡ some i
-      go true q ih = rw (eqb-true from i q, here)
-      go false q ih =
-          let later : suc from ≤ i = omega (arith, eqb-false from i q) in
-          rw (others from (omega arith) later) (ih later (omega arith) here (λ j k l. others j (omega arith) l))
 
 -- 1 to 9, 17, 18 and 19 on the counts do not apply; e is the cache on the standing table's generation
 pub record Asked (c : ResolveCache) (a : Area) (s : Snapshot) (words subject : List ℕ) (e : ResolveCache) : Type 0 where
@@ -119,21 +89,17 @@ module _ (c : ResolveCache) (a : Area) (s : Snapshot) (words subject out : List 
         ∙ ap (λ d. work c a subject out d (walk_of s words subject)) g.on
         ∙ full
 
-    pub walks : FirstOf c.capacity a.keys subject 0 e.used None → walking ≡ whole
+    pub walks : find_from c.capacity a.keys subject 0 e.used ≡ none → walking ≡ whole
     walks absent =
         rw (g.accepted.1, g.stands)
-        (subst (λ d. miss c a subject out d (walk_of s words subject) ≡ whole) g.on
-        (works none (absent-none c.capacity a.keys subject 0 e.used (λ i h k. absent i h (omega arith)))))
+        (subst (λ d. miss c a subject out d (walk_of s words subject) ≡ whole) g.on (works none absent))
 
     -- a hit at slot i, whose byte of the second list says the number of its targets
-    module _ (small : Small c.capacity a.keys c.used) (i : ℕ) (first : FirstOf c.capacity a.keys subject 0 e.used (Some i)) where
-      found : find_from c.capacity a.keys subject 0 e.used ≡ some i
-      found = first-some c.capacity a.keys subject 0 e.used i (omega arith) (omega (arith, first.1)) first.2 first.3
-
+    module _ (small : Small c.capacity a.keys c.used) (i : ℕ) (found : find_from c.capacity a.keys subject 0 e.used ≡ some i) where
       count-is : get_or a.keys (c.capacity + i) 0 ≡ target_count e.capacity a.keys i
       count-is =
           let used : e.used ≤ c.used = rw g.on (adopt-used s.generation c).0 in
-          let short : key_length c.capacity a.keys i ≤ 256 = (small i (omega (arith, first.1))).0 in
+          let short : key_length c.capacity a.keys i ≤ 256 = (small i (omega (arith, (find-sound c.capacity a.keys subject 0 e.used i found).below))).0 in
           rw same-capacity (omega arith)
 
       by : ℕ → Resolved

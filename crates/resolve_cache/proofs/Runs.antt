@@ -1,5 +1,5 @@
 -- The first slot of n, run by run: what `find_map` over the runs answers.
-use Rattle.std.proofs.Common.{◌≡◌, ℕ, zero, suc, ◌+◌, ◌-◌, [], ◌∷◌, length, sym, ap, subst, ◌∙◌, ◌*◌, ◌/◌, ◌<◌, ◌≤◌, Bool, true, false, List, min, Some, None, refl, arith, ltb, ltb-true, ltb-false}
+use Rattle.std.proofs.Common.{◌≡◌, ℕ, zero, suc, ◌+◌, ◌-◌, [], ◌∷◌, length, sym, ap, subst, ◌∙◌, ◌*◌, ◌/◌, ◌<◌, ◌≤◌, Bool, true, false, List, min, Some, None, refl, arith, eqb, ltb, ltb-true, ltb-false}
 use Rattle.std.specs.Prelude.{Option, MatchOption, IfSome, IsSomeAnd}
 use Rattle.std.specs.List.{slice_get}
 use Rattle.std.specs.Iterator.{Yields}
@@ -7,8 +7,34 @@ use Rattle.std.specs.Iterator.Runs.{Run, YieldsRun, AllItemsGive, IsFirstToGive}
 use Rattle.std.specs.Bool.{IsTrue}
 use Rattle.std.specs.declared.ops.Range.{Range}
 use denote.Param.Members.{Mut, Called}
-use Rattle.resolve_cache_rules.specs.Cache.{keeps_at}
+use borrow.Author.Tests.{eqb-true, eqb-false}
+use mathlib.Core.Option.{none, some}
+use Rattle.subject_rules.specs.Choice.{pick}
+use Rattle.subject.specs.Answers.{optional}
+use Rattle.resolve_cache_rules.specs.Cache.{keeps_at, find_from}
 use Rattle.resolve_cache.specs.Deciding.{Absent, FirstOf}
+
+-- the first slot that keeps a subject, by what is known of each
+module _ (c : ℕ) (keys subject : List ℕ) where
+  absent-none : (from n : ℕ) → Absent c keys subject from (from + n) → find_from c keys subject from n ≡ none
+  absent-none from zero h = refl
+  absent-none from (suc n) h = rw (h from (omega arith) (omega arith)) (absent-none (suc from) n (λ i k l. h i (omega arith) (omega arith)))
+
+  first-some : (from n i : ℕ) → from ≤ i → i < from + n → keeps_at c keys subject i ≡ true → Absent c keys subject from i → find_from c keys subject from n ≡ some i
+  first-some from zero i after before here others = absurd (omega arith)
+  first-some from (suc n) i after before here others = go (eqb from i) refl (first-some (suc from) n i)
+    where
+      go : (b : Bool) → eqb from i ≡ b
+          → (suc from ≤ i → i < suc from + n → keeps_at c keys subject i ≡ true → Absent c keys subject (suc from) i → find_from c keys subject (suc from) n ≡ some i)
+          → pick (keeps_at c keys subject from) (some from) (find_from c keys subject (suc from) n) ≡ some i
+      go true q ih = rw (eqb-true from i q, here)
+      go false q ih =
+          let later : suc from ≤ i = omega (arith, eqb-false from i q) in
+          rw (others from (omega arith) later) (ih later (omega arith) here (λ j k l. others j (omega arith) l))
+
+  pub first_is : (n : ℕ) (r : Option ℕ) → FirstOf c keys subject 0 n r → (optional r ≡ find_from c keys subject 0 n) × IfSome r (λ i. i < n)
+  first_is n None absent = (sym (absent-none 0 n (λ i h k. absent i h (omega arith))), tt)
+  first_is n (Some i) (after, before, here, others) = (sym (first-some 0 n i after (omega arith) here others), before)
 
 -- the run of slot i
 module _ (c : ℕ) (keys subject : List ℕ) (n : ℕ) where

@@ -7,7 +7,7 @@ use Rattle.resolve_cache.specs.declared.ListPlace.{ListPlace}
 use Rattle.resolve_cache.specs.declared.ListPlace.TheVariants.{Kept, Walked}
 use Rattle.resolve_cache.specs.declared.ResolveError.{ResolveError}
 use Rattle.resolve_cache.specs.declared.ResolveError.TheVariants.{Invalid, CacheShort, BadSlot, Damaged, OutShort}
-use Rattle.resolve_cache.specs.declared.Resolved.{Resolved as Returned}
+use Rattle.resolve_cache_rules.specs.declared.Answered.{Answered}
 use Rattle.resolve_cache_rules.specs.Area.{Area}
 use Rattle.resolve_cache_rules.specs.Cache.{in_kept, in_out, Handed, turned_back, gives, Resolved}
 
@@ -26,7 +26,7 @@ resolve_answer (Ok (Walked count)) = in_out count
 resolve_answer (Err e) = resolve_refusal e
 
 -- what a resolve returned, with the areas as it left them
-abbrev pub left : Returned → Area → List ℕ → Resolved
+abbrev pub left : Answered (Result ListPlace ResolveError) → Area → List ℕ → Resolved
 left r a out = record { says = resolve_answer r.answer; cache = r.cache; area = a; out = out }
 
 -- the list that is handed back; a refusal hands back none

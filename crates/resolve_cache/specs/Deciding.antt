@@ -18,7 +18,8 @@ Roomy c keys = (c ≤ 1024) × (260 * c ≤ length keys)
 abbrev pub Absent : ℕ → List ℕ → List ℕ → ℕ → ℕ → Type 0
 Absent c keys subject from to = (i : ℕ) → from ≤ i → i < to → keeps_at c keys subject i ≡ false
 
--- the first slot from one place up to another that keeps the subject, if there is one
+-- the first slot from one place up to another that keeps the subject, if there is one. As exact as an equation with
+-- `find_from`, and a relation, since what joins runs asks of each slot of a run before whether it keeps the subject
 abbrev pub FirstOf : ℕ → List ℕ → List ℕ → ℕ → ℕ → Option ℕ → Type 0
 FirstOf c keys subject from to None = Absent c keys subject from to
 FirstOf c keys subject from to (Some i) =

@@ -5,7 +5,8 @@
 #![tactic(auto)]
 
 ghost use Rattle.std.specs.Prelude.{◌≡◌, ◌≢◌, ℕ, ◌+◌, ◌-◌, ◌*◌, ◌/◌, ◌<◌, ◌≤◌, true, false, length, min, slice_index};
-ghost use Rattle.std.specs.Prelude.{MatchOption};
+ghost use Rattle.std.specs.Prelude.{MatchOption, IfSome};
+ghost use Rattle.subject.specs.Answers.{optional};
 ghost use Rattle.sublist_walk_rules.specs.Walk.{part};
 ghost use Rattle.sublist_walk.specs.Answers.{match_refusal};
 ghost use Rattle.resolve_cache_rules.specs.Mark.{hash_from, mark};
@@ -20,7 +21,7 @@ ghost use Rattle.resolve_cache.specs.Answers.{resolve_refusal, resolve_answer, l
 ghost use Rattle.resolve_cache.specs.Deciding.{area_of, SameLists, Keeps, leaving};
 ghost use Rattle.resolve_cache.specs.Deciding.{FirstOf, Roomy};
 
-use resolve_cache_rules::{KEY_BYTES, ResolveCache, SLOT_LISTS, SLOT_TARGETS, Tick};
+use resolve_cache_rules::{Answered, KEY_BYTES, ResolveCache, SLOT_LISTS, SLOT_TARGETS, Tick};
 use subject::SubjectError;
 use sublist_snapshot::{Generation, StandingTable};
 use sublist_walk::MatchError;
@@ -65,13 +66,6 @@ impl From<MatchError> for ResolveError {
     }
 }
 
-// A resolve's answer, and the cache afterwards.
-#[derive(Clone, Copy)]
-pub struct Resolved {
-    pub cache: ResolveCache,
-    pub answer: Result<ListPlace, ResolveError>,
-}
-
 // A cache's slots, as they are lent.
 #[derive(Drop)]
 struct Slots<'a> {
@@ -105,7 +99,7 @@ pub fn resolve(
     standing: &StandingTable<'_>,
     subject: &[u8],
     out: &mut [u32],
-) -> Resolved
+) -> Answered<Result<ListPlace, ResolveError>>
     ensures { left result (lent stamps.new keys.new kept.new) out.new
         ≡ resolve cache (lent stamps.old keys.old kept.old)
         standing.now.snapshot standing.now.area.now subject.now out.old }
@@ -113,7 +107,7 @@ pub fn resolve(
     let mut slots = Slots { stamps, keys, kept };
     let mut next = cache;
     let answer = slots.look_up(&mut next, standing, subject, out);
-    Resolved {
+    Answered {
         cache: next,
         answer,
     }
@@ -242,7 +236,8 @@ impl<'a> Keys<'a> {
     #[inline(never)]
     fn find(&self, n: usize, subject: &[u8]) -> Option<usize>
         requires { n ≤ self.now.used }
-        ensures { FirstOf self.now.capacity self.now.bytes.now subject.now 0 n result }
+        ensures { (optional result ≡ find_from self.now.capacity self.now.bytes.now subject.now 0 n)
+            × IfSome result (λ i. i < n) }
     {
         let sought = mark_of(subject);
         (0..n.div_ceil(RUN)).find_map(|run| self.find_in_run(run, n, sought, subject))

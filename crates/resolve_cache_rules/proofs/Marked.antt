@@ -8,10 +8,9 @@ use mathlib.Core.Path.{◌≡◌, refl}
 use mathlib.Core.Bool.{Bool, true, false}
 use mathlib.Core.List.{List, [], ◌∷◌}
 use mathlib.Core.Option.{Option, none, some}
-use lib.Dec.{eqb, ltb}
+use lib.Dec.{ltb}
 use lib.ListN.{length}
-use borrow.Author.Tests.{ltb-false, eqb-false}
-use Rattle.subject_rules.specs.Choice.{pick, or}
+use Rattle.subject_rules.specs.Choice.{pick}
 use Rattle.subject_rules.specs.Answers.{Answer, answer}
 use Rattle.subject_rules.specs.Grammar.{grammar}
 use Rattle.sublist_walk_rules.specs.Walk.{Walked, found, failed}
@@ -20,9 +19,9 @@ use Rattle.sublist_snapshot.specs.Snapshot.{stands_in, walk_of}
 use Rattle.resolve_cache_rules.specs.declared.ResolveCache.{ResolveCache}
 use Rattle.resolve_cache_rules.specs.Mark.{mark}
 use Rattle.resolve_cache_rules.specs.Area.{Area, target_count, mark_at, key_at, touch}
-use Rattle.resolve_cache_rules.specs.Cache.{short, bad_from, bad, find_from, cache_numbers, with_capacity, clear, adopt}
+use Rattle.resolve_cache_rules.specs.Cache.{short, bad, find_from, cache_numbers, with_capacity, clear, adopt}
 use Rattle.resolve_cache_rules.specs.Cache.{ticked, hit, in_kept, Resolved, unchanged, missed, work_by, if_accepted, resolve}
-use Rattle.resolve_cache_rules.proofs.Slots.{or_false, short-wide, small_from}
+use Rattle.resolve_cache_rules.proofs.Slots.{not_bad, short-wide, small_from}
 use Rattle.resolve_cache_rules.proofs.Keeps.{Keeps, Anything, fresh_keeps, adopted_keeps, grown_keeps, missed_either}
 use Rattle.resolve_cache_rules.proofs.Faithful.{accepted_some}
 
@@ -40,13 +39,12 @@ cleared-marked c a i h = absurd (omega arith)
 -- neither 17 nor 18 applies
 sorted : (c : ResolveCache) (a : Area) → short c.capacity a ≡ false → bad c a ≡ false → Marked c a → Keeps Anything c a
 sorted c a s b m =
-    let p = or_false (eqb c.capacity 0) (or (ltb c.capacity c.used) (bad_from c.capacity a.keys 0 c.used)) b in
-    let q = or_false (ltb c.capacity c.used) (bad_from c.capacity a.keys 0 c.used) p.1 in
+    let q = not_bad c a b in
     record {
       wide = short-wide c.capacity a s;
-      any = omega (arith, eqb-false c.capacity 0 p.0);
-      fits = ltb-false c.capacity c.used q.0;
-      small = λ i h. let k = small_from c.capacity a.keys 0 c.used q.1 i (omega arith) (omega arith) in record { length = k.0; count = k.1; mark = m i h };
+      any = q.0;
+      fits = q.1;
+      small = λ i h. let k = small_from c.capacity a.keys 0 c.used q.2 i (omega arith) (omega arith) in record { length = k.0; count = k.1; mark = m i h };
       each = λ i h. tt;
     }
 

@@ -19,7 +19,7 @@ use Rattle.sublist_tree.specs.Lists.{put}
 use Rattle.resolve_cache_rules.specs.declared.ResolveCache.{ResolveCache}
 use Rattle.resolve_cache_rules.specs.Mark.{mark}
 use Rattle.resolve_cache_rules.specs.Area.{Area, key_length, target_count, mark_at, stamp_at, key_at, targets_at, keep_key, keep, touch}
-use Rattle.resolve_cache_rules.specs.Cache.{short, bad_slot, bad_from, keeps_at, find_from, oldest_from, place, grown}
+use Rattle.resolve_cache_rules.specs.Cache.{short, bad_slot, bad_from, bad, keeps_at, find_from, oldest_from, place, grown}
 use Rattle.resolve_cache_rules.specs.Ready.{Wide}
 use Rattle.resolve_cache_rules.proofs.Own.{own_mark}
 use Rattle.resolve_cache_rules.proofs.Put.{length-put, part-put, part-before, part_behind}
@@ -28,6 +28,13 @@ use Rattle.resolve_cache_rules.proofs.Put.{get_d_put-before}
 pub or_false : (a b : Bool) → or a b ≡ false → (a ≡ false) × (b ≡ false)
 or_false true b e = (e, cc)
 or_false false b e = (refl, e)
+
+-- 18 does not apply
+pub not_bad : (c : ResolveCache) (a : Area) → bad c a ≡ false → (1 ≤ c.capacity) × (c.used ≤ c.capacity) × (bad_from c.capacity a.keys 0 c.used ≡ false)
+not_bad c a b =
+    let p = or_false (eqb c.capacity 0) (or (ltb c.capacity c.used) (bad_from c.capacity a.keys 0 c.used)) b in
+    let q = or_false (ltb c.capacity c.used) (bad_from c.capacity a.keys 0 c.used) p.1 in
+    (omega (arith, eqb-false c.capacity 0 p.0), ltb-false c.capacity c.used q.0, q.1)
 
 pub short-wide : (n : ℕ) (a : Area) → short n a ≡ false → Wide n a
 short-wide n a e =

@@ -35,6 +35,13 @@ pub struct ResolveCache {
 #[derive(Clone, Copy)]
 pub struct CacheShort;
 
+// What a call on a cache answers, and the cache afterwards.
+#[derive(Clone, Copy)]
+pub struct Answered<A> {
+    pub cache: ResolveCache,
+    pub answer: A,
+}
+
 impl ResolveCache {
     // The most slots that a cache may have, and how many `new` gives it.
     pub const DEFAULT_CAPACITY: usize = 1024;

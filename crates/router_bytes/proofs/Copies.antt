@@ -1,7 +1,7 @@
 -- The calls on bytes, by what the copies of their areas are: whether the copies hold them, how long numbers and their
 -- bytes are, and what a match on the copies says of the match on the bytes.
 use Rattle.std.specs.Result.{is_ok}
-use Rattle.std.proofs.Common.{Result, Ok, Err, ◌≡◌, ℕ, zero, suc, ◌*◌, ◌/◌, ◌<◌, ◌≤◌, true, false, List, [], ◌∷◌, length, sum, refl, sym, ap, ◌∙◌, arith}
+use Rattle.std.proofs.Common.{Result, Ok, Err, ◌≡◌, ℕ, zero, suc, ◌*◌, ◌/◌, ◌≤◌, true, false, List, [], ◌∷◌, length, sum, refl, sym, ap, ◌∙◌, arith, ltb, ltb-true, ltb-false}
 use Rattle.std.proofs.lemmas.Bool.{false≢true}
 use Rattle.std.proofs.Math.Nat.{div-mul-le_self}
 use Rattle.subject_rules.specs.Answers.{Answer, answer, when_accepted}
@@ -18,7 +18,7 @@ use Rattle.resolve_cache.specs.Answers.{resolve_refusal, resolve_answer}
 use Rattle.sublist_entries.specs.Inserting.{after_answer}
 use Rattle.subject_rules.specs.Outputs.{outcome, over}
 use Rattle.sublist_walk_rules.specs.Matching.{match_table}
-use Rattle.router_bytes_rules.specs.Bytes.{numbers_in, bytes_of, words_in, on_bytes, match_bytes}
+use Rattle.router_bytes_rules.specs.Bytes.{copy_bytes, numbers_in, bytes_of, words_in, on_bytes, match_bytes}
 use Rattle.router_bytes_rules.proofs.Spelled.{length-numbers_in}
 use Rattle.router_bytes_rules.proofs.Limits.{match_taken, match_99}
 
@@ -61,16 +61,16 @@ module _ (n m : ℕ) (nodes targets subject out : List ℕ) where
   sizes = sum (length nodes ∷ length targets ∷ length out ∷ [])
 
   -- 99
-  pub match_full : 65536 < sizes → outcome (answer 99 []) out ≡ match_bytes n m nodes targets subject out
-  match_full over = sym (match_99 n m nodes targets subject out (omega (arith, over)))
+  pub match_full : true ≡ ltb copy_bytes sizes → outcome (answer 99 []) out ≡ match_bytes n m nodes targets subject out
+  match_full over = sym (match_99 n m nodes targets subject out (omega (arith, ltb-true copy_bytes sizes (sym over))))
 
   -- the match on the copies answers a and leaves words
-  module _ (small : sizes ≤ 65536) (a : Answer) (words node_words target_words out_words : List ℕ) where
+  module _ (small : false ≡ ltb copy_bytes sizes) (a : Answer) (words node_words target_words out_words : List ℕ) where
     matched : node_words ≡ words_in nodes → target_words ≡ words_in targets → out_words ≡ words_in out → outcome a words ≡ match_table n m node_words target_words subject out_words
         → outcome a (after_answer a (over (bytes_of 4 words) out) out) ≡ match_bytes n m nodes targets subject out
-    matched e f g found = ap (λ o. on_bytes o out) (found ∙ rw (e, f, g)) ∙ sym (match_taken n m nodes targets subject out (omega (arith, small)))
+    matched e f g found = ap (λ o. on_bytes o out) (found ∙ rw (e, f, g)) ∙ sym (match_taken n m nodes targets subject out (omega (arith, ltb-false copy_bytes sizes (sym small))))
 
-  module _ (small : sizes ≤ 65536) (words node_words target_words out_words : List ℕ) (e : node_words ≡ words_in nodes) (f : target_words ≡ words_in targets) (g : out_words ≡ words_in out) where
+  module _ (small : false ≡ ltb copy_bytes sizes) (words node_words target_words out_words : List ℕ) (e : node_words ≡ words_in nodes) (f : target_words ≡ words_in targets) (g : out_words ≡ words_in out) where
     -- 1 to 9, 19, 21
     pub match_refused : (why : MatchError) → outcome (match_refusal why) words ≡ match_table n m node_words target_words subject out_words
         → outcome (match_refusal why) out ≡ match_bytes n m nodes targets subject out

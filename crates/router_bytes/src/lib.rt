@@ -1,7 +1,7 @@
 // The match and the resolve on areas of bytes: their numbers are copied, and an accepted call's are written back.
 #![tactic(auto)]
 
-ghost use Rattle.std.specs.Prelude.{◌≡◌, MatchBool, ℕ, List, ◌-◌, ◌+◌, ◌*◌, ◌/◌, ◌<◌, ◌≤◌, length, map, sum};
+ghost use Rattle.std.specs.Prelude.{◌≡◌, ltb, ℕ, List, ◌-◌, ◌+◌, ◌*◌, ◌/◌, ◌<◌, ◌≤◌, length, map, sum};
 ghost use Rattle.std.specs.List.{flat_map};
 ghost use Rattle.std.specs.Simd.{first_chunks};
 ghost use Rattle.subject_rules.specs.Outputs.{outcome, over};
@@ -11,7 +11,7 @@ ghost use Rattle.router_bytes_rules.specs.Bytes.{match_bytes, resolve_bytes};
 ghost use Rattle.router_bytes.specs.Answers.{bytes_match_answer, left_bytes};
 
 use resolve_cache::{ListPlace, ResolveError};
-use resolve_cache_rules::ResolveCache;
+use resolve_cache_rules::{Answered, ResolveCache};
 use sublist_snapshot::{Snapshot, StandingTable};
 use sublist_walk::{MatchError, Table, TableMatch};
 
@@ -33,13 +33,6 @@ impl<E> From<E> for BytesError<E> {
     fn from(error: E) -> BytesError<E> {
         BytesError::Refused(error)
     }
-}
-
-// A resolve's answer, and the cache afterwards.
-#[derive(Clone, Copy)]
-pub struct BytesResolved {
-    pub cache: ResolveCache,
-    pub answer: Result<ListPlace, BytesError<ResolveError>>,
 }
 
 // Numbers that stand as so many bytes, lowest byte first.
@@ -105,7 +98,8 @@ fn load<'a, const WIDTH: usize, T: Spelled<WIDTH>>(
 {
     let (parts, _) = bytes.as_chunks::<WIDTH>();
     let (numbers, rest) = room.split_at_mut(parts.len());
-    // Kept: a zip over `iter_mut` would read better, but a proof then knows only how many numbers there are.
+    // Kept: tried as a zip over `iter_mut`: the goal `loaded` stays, since a proof then knows only how many numbers
+    // there are.
     for (i, part) in parts.iter().enumerate() {
         numbers[i] = T::from_bytes(*part);
     }
@@ -117,7 +111,8 @@ fn store<const WIDTH: usize, T: Spelled<WIDTH>>(numbers: &[T], bytes: &mut [u8])
     requires { length numbers.now * WIDTH ≤ length bytes.old }
     ensures { bytes.new ≡ over (flat_map T.spell numbers.now) bytes.old }
 {
-    // Kept: a zip over chunks of the bytes would read better, but a proof then knows only how many bytes there are.
+    // Kept: tried as a zip over `chunks_exact_mut`: the equation stays open, since a proof then knows only how many
+    // bytes there are.
     for (i, number) in numbers.iter().enumerate() {
         let at = i * WIDTH;
         bytes[at..at + WIDTH].copy_from_slice(&number.to_bytes());
@@ -126,7 +121,7 @@ fn store<const WIDTH: usize, T: Spelled<WIDTH>>(numbers: &[T], bytes: &mut [u8])
 
 // 99: whether areas of so many bytes are together more than the copies hold.
 fn copies_full(sizes: &[usize]) -> bool
-    ensures { MatchBool result (copy_bytes < sum sizes.now) (sum sizes.now ≤ copy_bytes) }
+    ensures { result ≡ ltb copy_bytes (sum sizes.now) }
 {
     sizes
         .iter()
@@ -180,13 +175,13 @@ pub fn resolve_bytes(
     area: &[u8],
     subject: &[u8],
     out: &mut [u8],
-) -> BytesResolved
+) -> Answered<Result<ListPlace, BytesError<ResolveError>>>
     ensures { left_bytes result (lent stamps.new keys.new kept.new) out.new
         ≡ resolve_bytes cache (lent stamps.old keys.old kept.old)
         snapshot area.now subject.now out.old }
 {
     if copies_full(&[stamps.len(), kept.len(), area.len(), out.len()]) {
-        return BytesResolved {
+        return Answered {
             cache,
             answer: Err(BytesError::CopyFull),
         };
@@ -217,7 +212,7 @@ pub fn resolve_bytes(
         store(kept_words, kept);
         store(out_words, out);
     }
-    BytesResolved {
+    Answered {
         cache: resolved.cache,
         answer: resolved.answer.map_err(BytesError::Refused),
     }

@@ -11,9 +11,9 @@ ghost use Rattle.router_words.specs.Words.{answer_in, cache_in, Makes, Stores, R
 ghost use Rattle.router_bytes_rules.specs.Bytes.{resolve_bytes};
 ghost use Rattle.router_bytes.specs.Answers.{bytes_answer};
 
-use resolve_cache::resolve;
-use resolve_cache_rules::ResolveCache;
-use router_bytes::{BytesError, BytesResolved};
+use resolve_cache::{ListPlace, ResolveError, resolve};
+use resolve_cache_rules::{Answered, ResolveCache};
+use router_bytes::BytesError;
 use router_words::{
     CAnswer, CCache, CMadeCache, CMadeSnapshot, CMove, CResolved, CSnapshot, CStored, CVerdict,
 };
@@ -135,8 +135,9 @@ pub fn router_resolve(
 }
 
 // A resolve on bytes: what the resolve on the copies tells, or 99; then the cache.
-// Kept: why it is not one with tables' `told` stands there.
-fn told(r: BytesResolved) -> CResolved
+// Kept: one function for this and tables' `told` would say its answer by any `from`, in a definition of its own, and
+// need a lemma for each of the two contracts: more words than these arms.
+fn told(r: Answered<Result<ListPlace, BytesError<ResolveError>>>) -> CResolved
     ensures { Says (answer_in result) (bytes_answer r.answer)
         × (cache_in result ≡ r.cache) }
 {

@@ -21,11 +21,11 @@ ghost use Rattle.router_words.specs.Words.{number_of, value_of, Says, SaysText, 
 ghost use Rattle.router_words.specs.Words.{snapshot_of, snapshot_in, cache_of, answer_in, cache_in};
 ghost use Rattle.router_words.specs.Words.{verdict_answer, judged_answer, moved_answer, SaysMove};
 
-use binding::{CachedResolution, Resolution, SingleHome};
+use binding::{Resolution, SingleHome};
 use crossing::CrossingError;
 use load_maker::{MadeText, MakeError};
-use resolve_cache::{ListPlace, ResolveError, Resolved};
-use resolve_cache_rules::{CacheShort, ResolveCache, Tick};
+use resolve_cache::{ListPlace, ResolveError};
+use resolve_cache_rules::{Answered, CacheShort, ResolveCache, Tick};
 use subject::{SubjectError, Token};
 use sublist::{Built, SublistError};
 use sublist_entries::{InsertError, ListState};
@@ -529,10 +529,14 @@ impl CResolved {
     }
 }
 
-impl From<Resolved> for CResolved {
-    ghost from_gives = { λ r w. Says (answer_in w) (resolve_answer r.answer) × (cache_in w ≡ r.cache) };
+// What a call on a cache answers, and the cache afterwards.
+impl<A> From<Answered<A>> for CResolved
+where
+    CAnswer: From<A>,
+{
+    ghost from_gives = { λ r w. ⟦<CAnswer as From<A>>⟧.from_gives r.answer (answer_in w) × (cache_in w ≡ r.cache) };
 
-    fn from(r: Resolved) -> CResolved {
+    fn from(r: Answered<A>) -> CResolved {
         CResolved::new(r.answer.into(), r.cache)
     }
 }
@@ -586,14 +590,6 @@ impl From<Result<Resolution, ResolveError>> for CAnswer {
 
     fn from(h: Result<Resolution, ResolveError>) -> CAnswer {
         h.map_or_else(CAnswer::from, CAnswer::from)
-    }
-}
-
-impl From<CachedResolution> for CResolved {
-    ghost from_gives = { λ h w. Says (answer_in w) (judged_answer (cached_answer h.answer)) × (cache_in w ≡ h.cache) };
-
-    fn from(h: CachedResolution) -> CResolved {
-        CResolved::new(h.answer.into(), h.cache)
     }
 }
 

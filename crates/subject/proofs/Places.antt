@@ -1,5 +1,5 @@
 -- Where token n of a text stands: a reader that has passed n tokens finds it there, and the text has its bytes there.
-use Rattle.std.proofs.Common.{◌≡◌, ℕ, zero, suc, ◌+◌, ◌-◌, ◌<◌, ◌≤◌, Bool, true, false, leb, List, [], ◌∷◌, Option, None, Some, length, get_or, take, drop, refl, sym, ap, ◌∙◌, arith, length-drop, length-take, le-leb, leb-false, leb-true}
+use Rattle.std.proofs.Common.{◌≡◌, ℕ, zero, suc, ◌+◌, ◌-◌, ◌<◌, ◌≤◌, Bool, true, false, leb, List, [], ◌∷◌, Option, None, Some, length, get_or, take, drop, refl, sym, ap, ◌∙◌, subst, arith, length-drop, length-take, le-leb, leb-false, leb-true}
 use borrow.Author.Tests.{lt-leb}
 use Rattle.subject_rules.specs.Text.{tokens}
 use Rattle.subject.specs.Reading.{dot_from, tokens_from, part, token_at, past, place_in}
@@ -30,29 +30,32 @@ module _ (text : List ℕ) (at : ℕ) (h : length text < at) where
   unfolding token_at
   token_none = rw (lt-leb at (length text) h)
 
--- what is known where a token is found at position `at`: it lies in the text, and those that are left are it and those from `next` on
-pub record Found (text : List ℕ) (at start end next : ℕ) : Type 0 where
-  pub within : (start ≤ end) × (end ≤ length text)
-  pub moves : (at < next) × (next ≤ length text + 1)
-  pub left : tokens_from text at ≡ take (end - start) (drop start text) ∷ tokens_from text next
+-- what is known where a token is found at position `at`: it lies in the text, and those that are left are it and those behind it
+pub record Found (text : List ℕ) (at : ℕ) (t : Token) : Type 0 where
+  pub within : (t.start ≤ t.end) × (t.end ≤ length text)
+  pub moves : (at < t.next) × (t.next ≤ length text + 1)
+  pub left : tokens_from text at ≡ take (t.end - t.start) (drop t.start text) ∷ tokens_from text t.next
 
-pub part-found : (text : List ℕ) (at start end next : ℕ) (k : Option Token) → k ≡ token_at text at → k ≡ Some (part start end next) → Found text at start end next
-part-found text at start end next k e f = go (leb at (length text)) refl
-  where
-    go : (b : Bool) → leb at (length text) ≡ b → Found text at start end next
-    go true g =
-        let h = leb-true at (length text) g in
-        let t = token_here text at h in
-        let same : part start end next ≡ part at (dot_from text at) (dot_from text at + 1) = cc in
-        let p : at ≡ start = sym (ap (λ (k : Token). k.start) same) in
-        let d : dot_from text at ≡ end = sym (ap (λ (k : Token). k.end) same) in
-        let n : dot_from text at + 1 ≡ next = sym (ap (λ (k : Token). k.next) same) in
-        let l = dot_from_lem text at in
-        let m = dot_within text at h in
-        record { within = (omega arith, omega arith); moves = (omega arith, omega arith); left = rw (← p, ← d, ← n) (tokens-next text at h) }
-    go false g =
-        let t = token_none text at (leb-false at (length text) g) in
-        absurd (cc)
+module _ (text : List ℕ) (at : ℕ) (k : Option Token) (e : k ≡ token_at text at) (t : Token) (f : k ≡ Some t) where
+  pub token-found : Found text at t
+  token-found = go (leb at (length text)) refl
+    where
+      go : (b : Bool) → leb at (length text) ≡ b → Found text at t
+      go true g =
+          let h = leb-true at (length text) g in
+          let l = dot_from_lem text at in
+          let m = dot_within text at h in
+          let same : part at (dot_from text at) (dot_from text at + 1) ≡ t = let n = token_here text at h in cc in
+          subst (λ (t : Token). Found text at t) same (record { within = (omega arith, omega arith); moves = (omega arith, omega arith); left = tokens-next text at h })
+      go false g =
+          let n = token_none text at (leb-false at (length text) g) in
+          absurd (cc)
+
+  pub token-starts : t.start ≤ t.end
+  token-starts = token-found.within.0
+
+  pub token-ends : t.end ≤ length text
+  token-ends = token-found.within.1
 
 -- where none is found, the text has ended
 pub end-found : (text : List ℕ) (at : ℕ) (k : Option Token) → k ≡ token_at text at → k ≡ None → length text < at
@@ -161,6 +164,6 @@ empty-text : place_in 0 (tokens []) 0 ≡ Some (part 0 0 1)
 empty-text = refl
 
 -- where a reader finds a token, and where it finds none
-pub ruleset found = (part-found, end-found, tokens-end)
+pub ruleset found = (token-found, token-starts, token-ends, end-found, tokens-end)
 
 pub ruleset reads = (first_read, none_read, next_read)

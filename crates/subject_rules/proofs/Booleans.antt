@@ -1,8 +1,19 @@
--- Laws of `and` and `or`.
+-- Laws of `and`, `or` and `pick`.
+use Prim.Native.Nat.{ℕ}
 use mathlib.Core.Path.{◌≡◌, refl}
 use mathlib.Core.Bool.{Bool, true, false, ◌||◌}
+use lib.Dec.{eqb}
+use borrow.Author.Tests.{eqb-true, eqb-false}
 use Rattle.std.proofs.lemmas.Bool.{true≢false}
-use Rattle.subject_rules.specs.Choice.{and, or}
+use Rattle.subject_rules.specs.Choice.{pick, and, or}
+
+-- by a test of two numbers
+pub by_eqb : {A : Type 0} (P : A → Type 0) (m n : ℕ) (x y : A) → (m ≡ n → P x) → ((m ≡ n → ⊥) → P y) → P (pick (eqb m n) x y)
+by_eqb P m n x y f g = go (eqb m n) refl
+  where
+    go : (b : Bool) → eqb m n ≡ b → P (pick b x y)
+    go true e = f (eqb-true m n e)
+    go false e = g (eqb-false m n e)
 
 pub and_false : (a : Bool) → and a false ≡ false
 and_false true = refl
@@ -27,6 +38,10 @@ and_both a b e = (and_left a b e, and_right a b e)
 pub or_true : (a : Bool) → or a true ≡ true
 or_true true = refl
 or_true false = refl
+
+pub or_false : (a : Bool) → or a false ≡ a
+or_false true = refl
+or_false false = refl
 
 pub or_left : (a b : Bool) → or a b ≡ false → a ≡ false
 or_left true b e = e

@@ -18,10 +18,10 @@ use Rattle.subject_rules.specs.Grammar.{bad_char, first_of, bad_chars, bad_token
 abbrev pub number : Answer → ℕ
 number (answer n values) = n
 
--- what there is refuses: its number is not 0
+-- what there is refuses: its number is 1 to 9
 abbrev pub Refuses : Option Answer → Type 0
 Refuses none = Unit {0}
-Refuses (some a) = 1 ≤ number a
+Refuses (some a) = (1 ≤ number a) × (number a ≤ 9)
 
 refuses_pick : (b : Bool) (x y : Option Answer) → Refuses x → Refuses y → Refuses (pick b x y)
 refuses_pick true x y p q = p
@@ -55,24 +55,21 @@ bad_token_lem wild index (b ∷ bs) =
 -- behind a refusal that there is, no text is accepted
 pub not_refused : (o : Option Answer) (after : Answer) (vs : List ℕ) → Refuses o → unless o after ≡ answer 0 vs → (o ≡ none) × (after ≡ answer 0 vs)
 not_refused none after vs r e = (refl, e)
-not_refused (some a) after vs r e = let z : ⊥ = omega (arith, ap number e) in absurd z
+not_refused (some a) after vs r e = absurd (omega (arith, ap number e, r.0))
 
 -- the index of the 33rd token is refused
 pub under : (index : ℕ) (after : Answer) (vs : List ℕ) → index ≤ 32 → pick (eqb index 32) (answer 5 (33 ∷ [])) after ≡ answer 0 vs → (index + 1 ≤ 32) × (after ≡ answer 0 vs)
 under index after vs h e = go (eqb index 32) refl e
   where
-    full : eqb index 32 ≡ false → index ≡ 32 → ⊥
-    full q r = let s : eqb index 32 ≡ true = rw r refl in let z : ◌≡◌ {A = ℕ} 0 1 = cc in omega arith
-
     go : (b : Bool) → eqb index 32 ≡ b → pick b (answer 5 (33 ∷ [])) after ≡ answer 0 vs → (index + 1 ≤ 32) × (after ≡ answer 0 vs)
-    go true q e = let z : ⊥ = omega (arith, ap number e) in absurd z
-    go false q e = (omega (arith, full q), e)
+    go true q e = absurd (cc)
+    go false q e = (omega (arith, eqb-false index 32 q), e)
 
 check-count : (wild : Bool) (passed : Option ℕ) (index : ℕ) (ts : List (List ℕ)) (vs : List ℕ) → index ≤ 32 → check wild passed index ts ≡ answer 0 vs
     → (vs ≡ (index + length ts) ∷ []) × (index + length ts ≤ 32)
 check-count wild none index [] vs h e = let z : index + 0 ≡ index = omega arith in (rw z (cc), omega arith)
 check-count wild (some at) index [] vs h e = let z : index + 0 ≡ index = omega arith in (rw z (cc), omega arith)
-check-count wild (some at) index (t ∷ ts) vs h e = let z : ⊥ = omega (arith, ap number e) in absurd z
+check-count wild (some at) index (t ∷ ts) vs h e = absurd (cc)
 check-count wild none index (t ∷ ts) vs h e =
     let u = under index _ vs h e in
     let c = check-count wild (tail_at (is_tail t) index) (index + 1) ts vs u.0 (not_refused (bad_token wild index t) _ vs (bad_token_lem wild index t) u.1).1 in
@@ -102,9 +99,9 @@ passed wild bs vs e = go (too_long bs) refl (first_bad bs) refl (eqb (length bs)
   where
     go : (b : Bool) → too_long bs ≡ b → (o : Option ℕ) → first_bad bs ≡ o → (c : Bool) → eqb (length bs) 0 ≡ c
         → pick b (answer 1 []) (unless (not_utf8 o) (pick c (answer 3 []) (check wild none 0 (tokens bs)))) ≡ answer 0 vs → Passed wild bs vs
-    go true p o q c r e = let z : ⊥ = omega (arith, ap number e) in absurd z
-    go false p (some i) q c r e = let z : ⊥ = omega (arith, ap number e) in absurd z
-    go false p none q true r e = let z : ⊥ = omega (arith, ap number e) in absurd z
+    go true p o q c r e = absurd (cc)
+    go false p (some i) q c r e = absurd (cc)
+    go false p none q true r e = absurd (cc)
     go false p none q false r e = record { short = ltb-false 4096 (length bs) p; utf8 = q; filled = omega (arith, eqb-false (length bs) 0 r); checks = e }
 
 -- and a text that has passed all that is accepted

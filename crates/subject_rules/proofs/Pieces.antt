@@ -68,7 +68,7 @@ split_behind zero (b ∷ bs) d = go (eqb b SEP) refl d.0 (split_behind (followin
   where
     go : (w : Bool) → eqb b SEP ≡ w → First b bs → Behind (following b) (split SEP bs) → Behind 0 (when w then [] ∷ split SEP bs else join b (split SEP bs))
     go true e (ascii l) p = (tt, tt, behind_pieces (split SEP bs) (rw (lt-ltb b 0x80 l) at p))
-    go true e (long l c) p = let z : ◌≡◌ {A = ℕ} 0 1 = cc (no_dot b l) in absurd (omega arith)
+    go true e (long l c) p = absurd (cc (no_dot b l))
     go false e f p = join_first b (split SEP bs) e (first_head b bs (decodes_tails (following b) bs d.1) f) p
 
 pub split_pieces : (bs : List ℕ) → Decodes 0 bs → Pieces (split SEP bs)

@@ -7,7 +7,7 @@ use mathlib.Core.List.{List, [], ◌∷◌}
 use mathlib.Core.Option.{Option, none, some}
 use lib.Dec.{eqb, ltb}
 use lib.ListN.{length}
-use borrow.Author.Tests.{eqb-true, eqb-false, ne_eqb, lt-ltb, le-ltb}
+use borrow.Author.Tests.{eqb-true, eqb-false, ne_eqb, ltb-false, lt-ltb, le-ltb}
 use Rattle.subject_rules.specs.Choice.{pick, or}
 use Rattle.subject_rules.specs.Text.{cut_at, tokens, is_tail}
 use Rattle.subject_rules.specs.Utf8.{first_bad}
@@ -133,6 +133,21 @@ grammar_original wild (b ∷ bs) l u =
     let short : too_long (b ∷ bs) ≡ false = le-ltb _ (length (b ∷ bs)) (omega arith) in
     rw (short, u, ne_eqb (length (b ∷ bs)) 0 (λ e. omega arith), ← split-tokens (b ∷ bs))
     (tokens-checked wild 0 none (split SEP (b ∷ bs)) (split_pieces (b ∷ bs) (utf8_decodes (b ∷ bs) u)))
+
+-- a text that rule 1 or 2 refuses, or one that neither does
+pub data TextKind (wild : Bool) (bs : List ℕ) : Type 0 where
+  overlong : grammar wild bs ≡ answer 1 [] → TextKind wild bs
+  wrong : (i : ℕ) → grammar wild bs ≡ answer 2 (i ∷ []) → TextKind wild bs
+  plain : length bs ≤ 4096 → first_bad bs ≡ none → TextKind wild bs
+
+pub kind_of : (wild : Bool) (bs : List ℕ) → TextKind wild bs
+unfolding grammar
+kind_of wild bs = go (too_long bs) refl (first_bad bs) refl
+  where
+    go : (b : Bool) → too_long bs ≡ b → (o : Option ℕ) → first_bad bs ≡ o → TextKind wild bs
+    go true p o q = overlong (rw p)
+    go false p (some i) q = wrong i (rw (p, q))
+    go false p none q = plain (ltb-false 4096 (length bs) p) q
 
 -- one count for each token, up to 32
 tokens-counted : (wild : Bool) (count : ℕ) (passed : Option ℕ) (ts : List (List ℕ)) (n : ℕ) → each_token wild count passed ts ≡ Ok n

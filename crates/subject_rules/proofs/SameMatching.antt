@@ -1,5 +1,5 @@
 -- Matching is the original's: its refusals, the pattern's before the subject's, then what its `matches` says; and its `has_tail_wildcard`.
-use Prim.Native.Nat.{ℕ, ◌≤◌}
+use Prim.Native.Nat.{ℕ, suc, ◌≤◌}
 use mathlib.Core.Path.{◌≡◌, refl, sym, ◌∙◌}
 use mathlib.Core.Bool.{Bool, true, false}
 use mathlib.Core.List.{List, [], ◌∷◌}
@@ -9,7 +9,7 @@ use lib.ListN.{length}
 use Rattle.subject_rules.specs.Choice.{pick, and, or}
 use Rattle.subject_rules.specs.Text.{tokens, is_star, is_tail, ends_in_tail, same}
 use Rattle.subject_rules.specs.Utf8.{first_bad}
-use Rattle.subject_rules.specs.Answers.{Answer, said, when_accepted}
+use Rattle.subject_rules.specs.Answers.{Answer, answer, said, when_accepted}
 use Rattle.subject_rules.specs.Grammar.{grammar}
 use Rattle.subject_rules.specs.Matching.{match_tokens, matching}
 use Rattle.subject_rules.specs.Original.{when◌then◌else◌, equal, WILDCARD_ONE, WILDCARD_TAIL, SEP, split, Error, Empty, EmptyToken, IllegalChar, ControlChar, WildcardNotAllowed, TailWildcardNotLast, TooDeep, Ok, Err, validate, match_loop, matches, last, is-tail, has_tail_wildcard, answer_of}
@@ -21,7 +21,7 @@ if_and : (w : Bool) (a b : Bool) → a ≡ b → (when w then a else false) ≡ 
 if_and true a b e = e
 if_and false a b e = refl
 
-equal-same : (xs ys : List ℕ) → equal xs ys ≡ same xs ys
+pub equal-same : (xs ys : List ℕ) → equal xs ys ≡ same xs ys
 equal-same [] [] = refl
 equal-same [] (y ∷ ys) = refl
 equal-same (x ∷ xs) [] = refl
@@ -58,14 +58,19 @@ loop_tokens (p ∷ ps) (s ∷ ss) =
 matches-tokens : (p s : List ℕ) → matches p s ≡ match_tokens (tokens p) (tokens s)
 matches-tokens p s = rw (← split-tokens p, ← split-tokens s) (loop_tokens (split SEP p) (split SEP s))
 
-refusal_stands : (e : Error) (after : Answer) → when_accepted (answer_of (Err e)) after ≡ answer_of (Err e)
-refusal_stands Empty after = refl
-refusal_stands (EmptyToken index) after = refl
-refusal_stands (IllegalChar ch index) after = refl
-refusal_stands (ControlChar ch index) after = refl
-refusal_stands (WildcardNotAllowed ch index) after = refl
-refusal_stands (TailWildcardNotLast index) after = refl
-refusal_stands (TooDeep depth) after = refl
+-- a refusal is no success
+pub error-number : (e : Error) → (k : ℕ) × (vs : List ℕ) × (answer_of (Err e) ≡ answer (suc k) vs)
+error-number Empty = (2, [], refl)
+error-number (EmptyToken index) = (5, index ∷ [], refl)
+error-number (IllegalChar ch index) = (8, ch ∷ index ∷ [], refl)
+error-number (ControlChar ch index) = (7, ch ∷ index ∷ [], refl)
+error-number (WildcardNotAllowed ch index) = (6, ch ∷ index ∷ [], refl)
+error-number (TailWildcardNotLast index) = (3, index ∷ [], refl)
+error-number (TooDeep depth) = (4, depth ∷ [], refl)
+
+-- so it stands, whatever would come after it
+pub refusal_stands : (e : Error) (after : Answer) → when_accepted (answer_of (Err e)) after ≡ answer_of (Err e)
+refusal_stands e after = rw (error-number e).2
 
 -- a pattern and a subject that are UTF-8 of at most 4,096 bytes
 module _ (p : List ℕ) (p_fits : length p ≤ 4096) (p_utf8 : first_bad p ≡ none) where

@@ -2,7 +2,7 @@
 use Rattle.std.proofs.Common.{◌≡◌, ℕ, suc, ◌+◌, ◌-◌, ◌<◌, ◌≤◌, max, Bool, true, false, eqb, List, [], ◌∷◌, ◌++◌, map, length, take, sym, refl, ap, ◌∙◌, ap₂, add-one, arith, take-suc}
 use Rattle.std.proofs.lemmas.List.{map-append}
 use Rattle.subject_rules.specs.Choice.{pick}
-use Rattle.subject_rules.specs.Text.{cut_at, tokens, is_tail}
+use Rattle.subject_rules.specs.Text.{tokens, is_tail}
 use Rattle.subject_rules.specs.Fnv.{fnv}
 use Rattle.sublist_tree.specs.Lists.{largest}
 use Rattle.sublist_tree.specs.Tree.{Line, line, onto, line_of, keys_of}

@@ -22,34 +22,18 @@ ghost use Rattle.sublist.specs.Told.{HasNode, HasNodes, EndBelow, EndFits, AllFi
 use arrayvec::ArrayVec;
 use std::marker::Model;
 use subject::{SubjectError, is_star, is_tail, same_bytes, token_hash};
-use sublist_area::NODE_WORDS;
+use sublist_area::{
+    EXACT_COUNT, EXACT_START, NODE_WORDS, PARENT, STAR_CHILD, TAIL_COUNT, TAIL_START,
+};
 use sublist_area_rules::{ChildKey, PlaceError, Placed};
 use sublist_entries::{Entry, EntryForm, MAX_ENTRIES};
 use sublist_walk::MAX_FORK_FRONTIER;
-
-// The word of a node with its `*` child.
-const STAR_CHILD: usize = 3;
-
-// The word where a node's exact targets start.
-const EXACT_START: usize = 4;
-
-// The word that counts a node's exact targets.
-const EXACT_COUNT: usize = 5;
-
-// The word where a node's `>` targets start.
-const TAIL_START: usize = 6;
-
-// The word that counts a node's `>` targets.
-const TAIL_COUNT: usize = 7;
 
 // The worst case of a node's `*` child stands where its exact targets will start.
 const STAR_WORST: usize = EXACT_START;
 
 // The worst case of its literal children stands where its `>` targets will start.
 const LITERAL_WORST: usize = TAIL_START;
-
-// The word of a node with its parent.
-const PARENT: usize = 12;
 
 // Why a build is refused: 01's numbers 10 and 12 to 16, in order.
 #[derive(Clone, Copy)]
@@ -82,6 +66,8 @@ pub struct Built {
 }
 
 // Where a pattern ends: at a node, or at the `>` behind it.
+// Kept: `tail` is a flag, as the definitions take it (`counted a j tail`, `start_word tail`); with two kinds of end the
+// contracts that cite these would need one word more, which turns a kind into it.
 #[derive(Clone, Copy, Default)]
 struct LineEnd {
     node: u32,
@@ -118,8 +104,6 @@ impl<'a, F: EntryForm> Model for Listing<'a, F> {
     ghost invariant = { λ l. list_refused (F.entries l.entries.now) l.store.now ≡ none };
 }
 
-// Kept: the passes go over a list by place, since a form reads an entry by its place; an iterator would need a type of
-// its own that counts the places by hand.
 impl<'a, F: EntryForm> Listing<'a, F> {
     // 10, then entry by entry 12 before 13.
     fn new(entries: &'a [F], store: &'a [u8]) -> Result<Listing<'a, F>, SublistError>
@@ -273,6 +257,8 @@ fn insert_line(node_words: &mut [u32], nodes: usize, text: &[u8]) -> Result<Ende
 }
 
 // First pass: each entry's run is put in, its end counts it and is noted. The answer is the node count.
+// Kept: over the list by place, here and in `new` above and `longest_shared` and `nodes_needed` below, since a form
+// reads an entry by its place; an iterator would need a type of its own that counts the places by hand.
 // Kept: a listing, its table's words and its ends apart, here and at `grow_table`, `put_targets` and `finish` below; in
 // a struct each pass would have to add that the listing is the same, and the `&mut` the same and as long.
 #[tactic(auto, using(crate::proofs::Lines::lines_stop, crate::proofs::Lines::lines_end))]
@@ -424,6 +410,8 @@ fn lay_node(node_words: &mut [u32], i: usize, from: u32) -> u32
 }
 
 // Third pass: the nodes' targets, one node behind the other.
+// Kept: tried over `chunks_exact_mut(NODE_WORDS)`: once that loan is over, a proof knows no more of the words than how
+// many there are, so the equation with `laid` stays open.
 #[tactic(auto, using(crate::proofs::Turns::lay_on, crate::proofs::Turns::lay_end))]
 fn lay(node_words: &mut [u32], count: usize)
     requires { HasNodes node_words.old count }
@@ -439,7 +427,8 @@ fn lay(node_words: &mut [u32], count: usize)
 fn put_at(target_words: &mut [u32], at: usize, target: u32)
     ensures { target_words.new ≡ slice_set target_words.old at target }
 {
-    // Kept: a proof knows no more of the words after `get_mut` than how many there are.
+    // Kept: a proof knows no more of the words after `get_mut` than how many there are, so the equation with
+    // `slice_set` stays open.
     if at < target_words.len() {
         target_words[at] = target;
     }

@@ -11,23 +11,35 @@ use sublist_area_rules::{Child, ChildKey, PlaceError, Placed};
 // The words that a node takes.
 pub const NODE_WORDS: usize = 16;
 
-// The most nodes, that a word can still number them.
-const MAX_NODES: usize = u32::MAX as usize;
-
-// How many values a word has.
-const WORD: u64 = 4294967296;
-
 // The word of a node with its first literal child.
 const LITERAL_CHILD: usize = 2;
 
 // The word of a node with its `*` child.
-const STAR_CHILD: usize = 3;
+pub const STAR_CHILD: usize = 3;
+
+// The word where a node's exact targets start.
+pub const EXACT_START: usize = 4;
+
+// The word that counts a node's exact targets.
+pub const EXACT_COUNT: usize = 5;
+
+// The word where a node's `>` targets start.
+pub const TAIL_START: usize = 6;
+
+// The word that counts a node's `>` targets.
+pub const TAIL_COUNT: usize = 7;
 
 // The first of the words of a node with its next siblings.
 const SIBLINGS: usize = 8;
 
 // The word of a node with its parent.
-const PARENT: usize = 12;
+pub const PARENT: usize = 12;
+
+// The most nodes, that a word can still number them.
+const MAX_NODES: usize = u32::MAX as usize;
+
+// How many values a word has.
+const WORD: u64 = 4294967296;
 
 // The words of a hash, low word first.
 fn halves(hash: u64) -> [u32; 2]
@@ -36,55 +48,66 @@ fn halves(hash: u64) -> [u32; 2]
     [(hash % WORD) as u32, (hash / WORD) as u32]
 }
 
-// Whether node `at` has the hash.
-fn has_hash(node_words: &[u32], at: usize, hash: u64) -> bool
-    requires { at * words_per_node + words_per_node ≤ length node_words.now }
-    ensures { result ≡ hash_is node_words.now at hash }
-{
-    let [low, high] = halves(hash);
-    node_words[at * NODE_WORDS] == low && node_words[at * NODE_WORDS + 1] == high
+// So many nodes, the words of which are there.
+#[derive(Clone, Copy)]
+struct Nodes<'a> {
+    words: &'a [u32],
+    count: usize,
+    ghost fits: { count ≤ length words.now / words_per_node },
 }
 
-// What the number in a link leads to; 0 leads to no node.
-fn linked(node_words: &[u32], count: usize, link: usize) -> Child
-    requires { link < length node_words.now }
-    ensures { result ≡ linked node_words.now count link }
-{
-    let id = node_words[link];
-    if id == 0 {
-        return Child::Missing(link);
+impl<'a> Nodes<'a> {
+    // Whether node `at` has the hash.
+    fn has_hash(&self, at: usize, hash: u64) -> bool
+        requires { at < self.now.count }
+        ensures { result ≡ hash_is self.now.words.now at hash }
+    {
+        let [low, high] = halves(hash);
+        self.words[at * NODE_WORDS] == low && self.words[at * NODE_WORDS + 1] == high
     }
-    if count <= id as usize {
-        return Child::Damaged;
-    }
-    Child::Node(id)
-}
 
-// The sibling with the hash, from a link on.
-#[tactic(auto, using(sublist_area_rules::proofs::Turns::at_next), unfolding(sublist_area_rules::specs::Words::seek))]
-fn seek_sibling(node_words: &[u32], count: usize, start: usize, hash: u64) -> Child
-    requires { (count ≤ length node_words.now / words_per_node) × (start < count * words_per_node) }
-    ensures { result ≡ seek (by_hash node_words.now hash) node_words.now count hash count start }
-{
-    let mut link = start;
-    let mut rest = hash;
-    for _step in 0..count {
-        let met = linked(node_words, count, link);
-        let Child::Node(id) = met else {
-            return met;
-        };
-        let at = id as usize;
-        if has_hash(node_words, at, hash) {
-            return met;
+    // What the number in a link leads to; 0 leads to no node.
+    fn linked(&self, link: usize) -> Child
+        requires { link < self.now.count * words_per_node }
+        ensures { result ≡ linked self.now.words.now self.now.count link }
+    {
+        let id = self.words[link];
+        if id == 0 {
+            return Child::Missing(link);
         }
-        link = at * NODE_WORDS + SIBLINGS + (rest % 4) as usize;
-        rest /= 4;
+        if self.count <= id as usize {
+            return Child::Damaged;
+        }
+        Child::Node(id)
     }
-    // Kept: with no step left a link to a node is damage too, so this read is not `linked`.
-    if node_words[link] == 0 {
-        Child::Missing(link)
-    } else {
-        Child::Damaged
+
+    // The sibling with the hash, from a link on.
+    #[tactic(auto, using(sublist_area_rules::proofs::Turns::at_next), unfolding(sublist_area_rules::specs::Words::seek))]
+    fn seek_sibling(&self, start: usize, hash: u64) -> Child
+        requires { start < self.now.count * words_per_node }
+        ensures { result
+            ≡ seek (by_hash self.now.words.now hash) self.now.words.now self.now.count hash self.now.count start }
+    {
+        let mut link = start;
+        let mut rest = hash;
+        for _step in 0..self.count {
+            let met = self.linked(link);
+            let Child::Node(id) = met else {
+                return met;
+            };
+            let at = id as usize;
+            if self.has_hash(at, hash) {
+                return met;
+            }
+            link = at * NODE_WORDS + SIBLINGS + (rest % 4) as usize;
+            rest /= 4;
+        }
+        // Kept: with no step left a link to a node is damage too, so this read is not `linked`.
+        if self.words[link] == 0 {
+            Child::Missing(link)
+        } else {
+            Child::Damaged
+        }
     }
 }
 
@@ -97,11 +120,13 @@ pub fn child(node_words: &[u32], count: usize, node: u32, key: ChildKey) -> Chil
     if node_words.len() / NODE_WORDS < count || count <= from {
         return Child::Damaged;
     }
+    let nodes = Nodes {
+        words: node_words,
+        count,
+    };
     match key {
-        ChildKey::Literal(hash) => {
-            seek_sibling(node_words, count, from * NODE_WORDS + LITERAL_CHILD, hash)
-        }
-        ChildKey::Star => linked(node_words, count, from * NODE_WORDS + STAR_CHILD),
+        ChildKey::Literal(hash) => nodes.seek_sibling(from * NODE_WORDS + LITERAL_CHILD, hash),
+        ChildKey::Star => nodes.linked(from * NODE_WORDS + STAR_CHILD),
     }
 }
 

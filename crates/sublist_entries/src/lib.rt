@@ -31,6 +31,7 @@ pub struct Entry {
 }
 
 // How many entries of a lent list and how many bytes of its text store are in use.
+// Kept: the counts stand beside the lent list and store, since C lends these apart and gives the counts by value.
 #[derive(Clone, Copy)]
 pub struct ListState {
     pub entries: usize,
@@ -94,7 +95,8 @@ impl EntryForm for Entry {
     }
 
     fn put(list: &mut [Entry], i: usize, e: Entry) {
-        // Kept: a proof knows no more of the list after `get_mut` than its length.
+        // Kept: a proof knows no more of the list after `get_mut` than its length, so the equation with `with_entry`
+        // stays open.
         if i < list.len() {
             list[i] = e;
         }

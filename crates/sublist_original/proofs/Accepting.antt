@@ -1,47 +1,27 @@
 -- The original's `insert` accepts the entries that we accept: ours are accepted by it, and those that it accepts by us where the text is UTF-8 of at most 4,096 bytes.
 use Prim.Native.Nat.{ℕ, ◌≤◌}
-use native.Mathlib.Omega.{arith}
 use mathlib.Core.Path.{◌≡◌, refl, sym, ◌∙◌, ap}
-use mathlib.Core.Bool.{Bool, true, false}
+use mathlib.Core.Bool.{Bool, true}
 use mathlib.Core.List.{List, [], ◌∷◌, ◌++◌, append-nil, append_assoc}
-use mathlib.Core.Option.{Option, none, some}
-use lib.Dec.{eqb, ltb}
+use mathlib.Core.Option.{none}
 use lib.ListN.{length}
-use borrow.Author.Tests.{ltb-false}
-use Rattle.subject_rules.specs.Choice.{pick}
-use Rattle.subject_rules.specs.Text.{tokens}
 use Rattle.subject_rules.specs.Utf8.{first_bad}
-use Rattle.subject_rules.specs.Answers.{answer, unless}
-use Rattle.subject_rules.specs.Grammar.{check, not_utf8, grammar}
+use Rattle.subject_rules.specs.Answers.{answer}
+use Rattle.subject_rules.specs.Grammar.{grammar}
 use Rattle.subject_rules.specs.Original as subject
-use Rattle.subject_rules.specs.Original.{Error, Empty, EmptyToken, IllegalChar, ControlChar, WildcardNotAllowed, TailWildcardNotLast, TooDeep, validate, answer_of}
+use Rattle.subject_rules.specs.Original.{validate, answer_of}
+use Rattle.subject_rules.proofs.Depths.{passed}
 use Rattle.subject_rules.proofs.SameGrammar.{grammar_original}
+use Rattle.subject_rules.proofs.SameMatching.{error-number}
 use Rattle.sublist_tree.specs.Lists.{All}
 use Rattle.sublist_tree.specs.Table.{TableEntry, Accepted}
 use Rattle.sublist_original.specs.Original.{SublistBuilder, new, push, insert_all}
 use Rattle.sublist_original.specs.Entries.{pair, pairs, builder_of}
 use Rattle.sublist_original.proofs.Entering.{Valid}
 
--- a refusal is no success
-refusal-number : (e : Error) (vs : List ℕ) → answer_of (subject.Err e) ≡ answer 0 vs → ⊥
-refusal-number Empty vs q = let z : ◌≡◌ {A = ℕ} 3 0 = cc in omega arith
-refusal-number (EmptyToken index) vs q = let z : ◌≡◌ {A = ℕ} 6 0 = cc in omega arith
-refusal-number (IllegalChar ch index) vs q = let z : ◌≡◌ {A = ℕ} 9 0 = cc in omega arith
-refusal-number (ControlChar ch index) vs q = let z : ◌≡◌ {A = ℕ} 8 0 = cc in omega arith
-refusal-number (WildcardNotAllowed ch index) vs q = let z : ◌≡◌ {A = ℕ} 7 0 = cc in omega arith
-refusal-number (TailWildcardNotLast index) vs q = let z : ◌≡◌ {A = ℕ} 4 0 = cc in omega arith
-refusal-number (TooDeep depth) vs q = let z : ◌≡◌ {A = ℕ} 5 0 = cc in omega arith
-
 -- an accepted text is UTF-8 of at most 4,096 bytes
 pub accepted-fits : (wild : Bool) (bs vs : List ℕ) → grammar wild bs ≡ answer 0 vs → (length bs ≤ 4096) × (first_bad bs ≡ none)
-unfolding grammar
-accepted-fits wild bs vs e = go (ltb 4096 (length bs)) refl (first_bad bs) refl e
-  where
-    go : (b : Bool) → ltb 4096 (length bs) ≡ b → (o : Option ℕ) → first_bad bs ≡ o
-        → pick b (answer 1 []) (unless (not_utf8 o) (pick (eqb (length bs) 0) (answer 3 []) (check wild none 0 (tokens bs)))) ≡ answer 0 vs → (length bs ≤ 4096) × (first_bad bs ≡ none)
-    go true l o u e = absurd (cc)
-    go false l (some i) u e = absurd (cc)
-    go false l none u e = (ltb-false 4096 (length bs) l, u)
+accepted-fits wild bs vs e = let p = passed wild bs vs e in (p.short, p.utf8)
 
 -- and the original accepts it, with the same count
 pub accepted_original : (wild : Bool) (bs : List ℕ) (n : ℕ) → grammar wild bs ≡ answer 0 (n ∷ []) → validate bs wild ≡ subject.Ok n
@@ -49,7 +29,7 @@ accepted_original wild bs n e = go (validate bs wild) (sym (grammar_original wil
   where
     go : (r : subject.Result ℕ) → answer_of r ≡ answer 0 (n ∷ []) → r ≡ subject.Ok n
     go (subject.Ok m) q = cc
-    go (subject.Err f) q = absurd (refusal-number f (n ∷ []) q)
+    go (subject.Err f) q = absurd (let k = error-number f in cc)
 
 -- ---- the list
 

@@ -7,7 +7,6 @@ use mathlib.Core.Bool.{Bool, true, false}
 use mathlib.Core.List.{List, [], ◌∷◌, ◌++◌, append-nil, append_assoc}
 use lib.Dec.{eqb}
 use lib.ListN.{length, length-map}
-use borrow.Author.Tests.{eq-eqb, ne_eqb}
 use Rattle.subject_rules.specs.Choice.{pick}
 use Rattle.subject_rules.specs.Text.{tokens, is_star, is_tail}
 use Rattle.subject_rules.specs.Fnv.{fnv}
@@ -20,13 +19,14 @@ use Rattle.sublist_tree.specs.Tree.{Key, star, lit, Line, line, onto, target_of,
 use Rattle.sublist_tree.specs.Table.{TableEntry, entry_line, root_of}
 use Rattle.sublist_tree.proofs.Fork.{depth_of, Within}
 use Rattle.sublist_tree.proofs.Bytes.{eqb_sound, eqb_whole}
+use Rattle.sublist_tree.proofs.Route.{line_depth}
 use Rattle.sublist_trie.proofs.Trie.{Trie, root, grow, size, child, Good, ins_t, built_from, built}
 use Rattle.sublist_trie.proofs.Ends.{LineEnd, line_end, ends_from, ends_of}
 use Rattle.sublist_trie.proofs.Runs.{size_pos, child_less}
-use Rattle.sublist_trie.proofs.Growth.{run_ins}
+use Rattle.sublist_trie.proofs.Growth.{on_new, on_there, run_ins}
 use Rattle.sublist_original.specs.Original.{Outcome, Ok, ◌>>=◌, Arena, root_alone, push_gt_terminal, each_token, each_entry}
 use Rattle.sublist_original.specs.Entries.{pairs}
-use Rattle.sublist_rules.proofs.Composed.{from_most, ins_most, onto-target}
+use Rattle.sublist_rules.proofs.Composed.{from_most, ins_most}
 use Rattle.sublist_original.proofs.Arenas.{Stands, stepped, descend, descend_there, joined, descend_new, stands_new, exact_more, tail_more, stands_root}
 
 -- ---- a pattern's tokens
@@ -65,15 +65,6 @@ abbrev Reached : Trie ℕ → List LineEnd → ℕ → ℕ → List (Key ℕ) �
 Reached t es p x ks tail o =
     (b : Arena ℕ) × (o ≡ Ok ((ins_t eqb t p ks).1, tail, b)) × Stands b (ins_t eqb t p ks).0 (es ++ pick tail (line_end (ins_t eqb t p ks).1 true x ∷ []) [])
 
-module _ (t : Trie ℕ) (p : ℕ) (k : Key ℕ) (ks : List (Key ℕ)) where
-  ins_new : child eqb t p k ≡ 0 → ins_t eqb t p (k ∷ ks) ≡ ins_t eqb (grow t p k) (size t) ks
-  unfolding ins_t
-  ins_new z = rw (eq-eqb (child eqb t p k) 0 z)
-
-  ins_there : (child eqb t p k ≡ 0 → ⊥) → ins_t eqb t p (k ∷ ks) ≡ ins_t eqb t (child eqb t p k) ks
-  unfolding ins_t
-  ins_there ne = rw (ne_eqb (child eqb t p k) 0 ne)
-
 size_grow : (t : Trie ℕ) (p : ℕ) (k : Key ℕ) → size (grow t p k) ≡ suc (size t)
 unfolding size
 size_grow t p k = refl
@@ -82,11 +73,11 @@ size_grow t p k = refl
 module _ (a : Arena ℕ) (t : Trie ℕ) (es : List LineEnd) (s : Stands a t es) (p : ℕ) (h : p < size t) (x : ℕ) (token : List ℕ) (ts : List (List ℕ)) (e : is_tail token ≡ false) where
   key_new : (k : Key ℕ) (ks : List (Key ℕ)) (tail : Bool) → k ≡ key_of token → size t < 4294967296 → child eqb t p k ≡ 0
       → Reached (grow t p k) es (size t) x ks tail (each_token x (size t) (stepped a p (joined (size t) k)) ts) → Reached t es p x (k ∷ ks) tail (each_token x p a (token ∷ ts))
-  key_new k ks tail d room z r = rw (token_down x p a token ts e, ← d, ins_new t p k ks z, descend_new a t es s p h room k z) r
+  key_new k ks tail d room z r = rw (token_down x p a token ts e, ← d, on_new eqb t p k ks z, descend_new a t es s p h room k z) r
 
   key_there : (k : Key ℕ) (ks : List (Key ℕ)) (tail : Bool) → k ≡ key_of token → (child eqb t p k ≡ 0 → ⊥)
       → Reached t es (child eqb t p k) x ks tail (each_token x (child eqb t p k) a ts) → Reached t es p x (k ∷ ks) tail (each_token x p a (token ∷ ts))
-  key_there k ks tail d ne r = rw (token_down x p a token ts e, ← d, ins_there t p k ks ne, descend_there a t es s p h k ne) r
+  key_there k ks tail d ne r = rw (token_down x p a token ts e, ← d, on_there eqb t p k ks ne, descend_there a t es s p h k ne) r
 
 tail-reached : (a : Arena ℕ) (t : Trie ℕ) (es : List LineEnd) (p x : ℕ) (token : List ℕ) (ts : List (List ℕ)) → Stands a t es → p < size t → is_tail token ≡ true
     → Reached t es p x [] true (each_token x p a (token ∷ ts))
@@ -125,25 +116,10 @@ tokens_reach (token ∷ ts) x a t es p s h room = go (is_tail token) refl room
 abbrev pub Valid : TableEntry → Type 0
 Valid e = (n : ℕ) × (validate e.pattern true ≡ subject.Ok n)
 
--- its line has at most 32 keys, and its target
-onto_depth : (k : Key ℕ) (l : Line ℕ) → depth_of (onto k l) ≡ suc (depth_of l)
-onto_depth k (line ks tail x) = refl
-
-line_depth : (ts : List (List ℕ)) (x : ℕ) → (depth_of (line_of fnv ts x) ≤ length ts) × (target_of (line_of fnv ts x) ≡ x)
-line_depth [] x = (omega arith, refl)
-line_depth (t ∷ ts) x = go (is_tail t) (line_depth ts x)
-  where
-    l : Line ℕ
-    l = onto (key_of t) (line_of fnv ts x)
-
-    go : (b : Bool) → (depth_of (line_of fnv ts x) ≤ length ts) × (target_of (line_of fnv ts x) ≡ x)
-        → (depth_of (pick b (line [] true x) l) ≤ suc (length ts)) × (target_of (pick b (line [] true x) l) ≡ x)
-    go true ih = (omega arith, refl)
-    go false ih = (omega (arith, onto_depth (key_of t) (line_of fnv ts x), ih.0), onto-target (key_of t) (line_of fnv ts x) ∙ ih.1)
-
+-- its line has at most 32 keys
 valid_depth : (e : TableEntry) → Valid e → depth_of (entry_line fnv e) ≤ 32
 valid_depth e v =
-    omega (arith, (line_depth (tokens e.pattern) e.target).0, depth_original true e.pattern v.0 v.1, depth_bounded true e.pattern v.0 v.1)
+    omega (arith, (line_depth fnv (tokens e.pattern) e.target).0, depth_original true e.pattern v.0 v.1, depth_bounded true e.pattern v.0 v.1)
 
 pub lines_within : (es : List TableEntry) → All Valid es → Within 32 (root_of fnv es)
 lines_within [] v = tt
@@ -191,7 +167,7 @@ entries_in (e ∷ es) a t fs s v room =
     let more = entries_in es w.0 u (fs ++ (line_end (ins_t eqb t 0 (keys_of l)).1 (tail_of l) e.target ∷ [])) w.2 v.1 (omega (arith, line-most t l)) in (
       more.0,
       w.1 ∙ more.1,
-      rw (ends_cons t l (root_of fnv es), (line_depth (tokens e.pattern) e.target).1)
+      rw (ends_cons t l (root_of fnv es), (line_depth fnv (tokens e.pattern) e.target).1)
           (joined-ends more.0 (built_from eqb u (root_of fnv es)) fs (line_end (ins_t eqb t 0 (keys_of l)).1 (tail_of l) e.target) (ends_from eqb u (root_of fnv es)) more.2),
     )
 

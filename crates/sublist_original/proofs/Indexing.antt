@@ -1,4 +1,4 @@
--- The original's indexing, where the index is inside: what it gives, and what it leaves.
+-- The original's indexing, where the index is inside: what it gives, and what it leaves; and its `?`.
 use Prim.Native.Nat.{ℕ, zero, suc, ◌-◌, ◌≤◌, ◌<◌}
 use native.Mathlib.Omega.{arith}
 use mathlib.Core.Path.{◌≡◌, refl, ap}
@@ -9,7 +9,7 @@ use lib.ListN.{length, get_or, take, drop, set}
 use borrow.Author.Tests.{lt-ltb, le-leb, ne_eqb}
 use Rattle.sublist_tree.specs.Lists.{All}
 use Rattle.sublist_tree.proofs.Members.{In}
-use Rattle.sublist_original.specs.Original.{Ok, ◌!◌, change, slice, push, u32_from, contains}
+use Rattle.sublist_original.specs.Original.{Outcome, Ok, Err, Panic, ◌>>=◌, ◌!◌, change, slice, push, u32_from, contains}
 
 module _ {A : Type 0} where
   pub index_in : (xs : List A) (i : ℕ) (d : A) → i < length xs → xs ! i ≡ Ok (get_or xs i d)
@@ -41,6 +41,12 @@ module _ {A : Type 0} where
 
   pub slice_in : (xs : List A) (start end : ℕ) → start ≤ end → end ≤ length xs → slice xs start end ≡ Ok (take (end - start) (drop start xs))
   slice_in xs start end h l = rw (le-leb start end h, le-leb end (length xs) l)
+
+-- what follows from success by one way on follows by another
+pub carried : {A B C : Type 0} {f : A → Outcome B} {g : A → Outcome C} {b : B} {x : Outcome C} → ((a : A) → f a ≡ Ok b → g a ≡ x) → (m : Outcome A) → (m >>= f) ≡ Ok b → (m >>= g) ≡ x
+carried h (Ok a) e = h a e
+carried h (Err r) e = absurd (cc)
+carried h Panic e = absurd (cc)
 
 pub u32_in : (n : ℕ) → n < 4294967296 → u32_from n ≡ Ok n
 u32_in n h = rw (lt-ltb n 4294967296 h)

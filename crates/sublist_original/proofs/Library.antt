@@ -1,7 +1,7 @@
 -- Of the two functions of Rust's library: what sorting keeps; and there are two such functions.
 use Prim.Native.Nat.{ℕ, suc, ◌≤◌}
 use native.Mathlib.Omega.{arith}
-use mathlib.Core.Path.{◌≡◌, refl, sym, ap}
+use mathlib.Core.Path.{◌≡◌, refl, sym, subst}
 use mathlib.Core.Logic.{inl, inr}
 use mathlib.Core.List.{List, [], ◌∷◌, map}
 use mathlib.Core.Option.{Option, none, some}
@@ -10,6 +10,7 @@ use mathlib.Core.Bool.{Bool, true, false}
 use borrow.Author.Tests.{leb-true, leb-false, eqb-true, eqb-false}
 use Rattle.subject_rules.specs.Choice.{pick}
 use Rattle.sublist_tree.proofs.Members.{In, Distinct, All-in, All-at}
+use Rattle.sublist_trie.proofs.Sizes.{in_map, map_in}
 use Rattle.sublist_original.specs.Original.{Ok, ◌!◌, Literal, Each, Ascending, Reordered, empty, first, swap, in_turn, Std}
 
 -- what is said of each is said of one that stands in the list
@@ -43,14 +44,10 @@ abbrev pub keys : List Literal → List ℕ
 keys xs = map (λ x. x.0) xs
 
 pub keys_in : (xs : List Literal) (k : ℕ) → In k (keys xs) → (c : ℕ) × In {A = Literal} (k, c) xs
-keys_in [] k m = absurd m
-keys_in ((h, c) ∷ xs) k (inl e) = (c, inl (rw e refl))
-keys_in ((h, c) ∷ xs) k (inr m) = let w = keys_in xs k m in (w.0, inr w.1)
+keys_in xs k m = let w = map_in (λ (x : Literal). x.0) k xs m in (w.0.1, subst (λ h. In {A = Literal} (h, w.0.1) xs) (sym w.2) w.1)
 
 in_keys : (xs : List Literal) (k c : ℕ) → In {A = Literal} (k, c) xs → In k (keys xs)
-in_keys [] k c m = absurd m
-in_keys (x ∷ xs) k c (inl e) = inl (ap (λ (y : Literal). y.0) e)
-in_keys (x ∷ xs) k c (inr m) = inr (in_keys xs k c m)
+in_keys xs k c = in_map (λ (x : Literal). x.0) (k, c) xs
 
 -- where no two are equal, none are in another order
 pub reordered-apart : {xs ys : List Literal} → Reordered xs ys → Distinct (keys xs) → Distinct (keys ys)

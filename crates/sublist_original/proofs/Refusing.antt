@@ -5,7 +5,7 @@
 use Prim.Native.Nat.{ℕ, ◌+◌, ◌≤◌}
 use native.Mathlib.Omega.{arith}
 use mathlib.Core.Path.{◌≡◌, refl, ◌∙◌, ap, subst}
-use mathlib.Core.Bool.{Bool, true, not}
+use mathlib.Core.Bool.{true, not}
 use mathlib.Core.List.{List, [], ◌∷◌, ◌++◌, map-append}
 use mathlib.Core.Option.{Option, some}
 use lib.ListN.{length, length-append, length-map}
@@ -13,16 +13,18 @@ use borrow.Author.Tests.{le-ltb}
 use Rattle.subject_rules.specs.Answers.{Answer}
 use Rattle.subject_rules.specs.Grammar.{first_of}
 use Rattle.subject_rules.specs.Original as subject
-use Rattle.subject_rules.specs.Original.{Str, Error, Empty, EmptyToken, IllegalChar, ControlChar, WildcardNotAllowed, TailWildcardNotLast, TooDeep, when◌then◌else◌, validate, tokens, answer_of}
+use Rattle.subject_rules.specs.Original.{Str, Error, when◌then◌else◌, validate, tokens, answer_of}
 use Rattle.subject_rules.proofs.SameGrammar.{grammar_original}
+use Rattle.subject_rules.proofs.SameMatching.{error-number}
 use Rattle.sublist_tree.specs.Lists.{All}
 use Rattle.sublist_tree.specs.Table.{TableEntry}
 use Rattle.sublist_entries.specs.declared.Entry.{Entry}
 use Rattle.sublist_entries.specs.Entries.{text_of, target_word, read_from}
 use Rattle.sublist_rules.specs.Building.{held, invalid, bad_entry, bad_entries}
-use Rattle.sublist_original.specs.Original.{Outcome, Ok, Err, Panic, InvalidPattern, ◌>>=◌, NodeId, Arena, ROOT, parsed, root_alone, push_terminal, each_token, each_entry, Std, build}
+use Rattle.sublist_original.specs.Original.{Ok, Err, InvalidPattern, Arena, ROOT, parsed, root_alone, push_terminal, each_token, each_entry, Std, build}
 use Rattle.sublist_original.specs.Entries.{pair, pairs, builder_of}
 use Rattle.sublist_original.specs.Same.{Plain}
+use Rattle.sublist_original.proofs.Indexing.{carried}
 use Rattle.sublist_original.proofs.Entering.{Valid, entered}
 
 -- 12 is not met
@@ -41,13 +43,7 @@ pub record FirstBad (store : List ℕ) (es : List Entry) (says : Answer) : Type 
   pub holds : says ≡ held (answer_of (subject.Err error))
 
 invalid-refusal : (e : Error) → invalid (answer_of (subject.Err e)) ≡ some (held (answer_of (subject.Err e)))
-invalid-refusal Empty = refl
-invalid-refusal (EmptyToken index) = refl
-invalid-refusal (IllegalChar ch index) = refl
-invalid-refusal (ControlChar ch index) = refl
-invalid-refusal (WildcardNotAllowed ch index) = refl
-invalid-refusal (TailWildcardNotLast index) = refl
-invalid-refusal (TooDeep depth) = refl
+invalid-refusal e = rw (error-number e).2
 
 module _ (store : List ℕ) where
   entry-bad : (index : ℕ) (x : Entry) → Inside store x → Plain (text_of store x) → bad_entry store index x ≡ invalid (answer_of (validate (text_of store x) true))
@@ -92,31 +88,9 @@ module _ (store : List ℕ) where
 each_append : (xs ys : List (Str × ℕ)) (a b : Arena ℕ) → each_entry a xs ≡ Ok b → each_entry a (xs ++ ys) ≡ each_entry b ys
 unfolding each_entry
 each_append [] ys a b e = let same : a ≡ b = cc in ap (λ c. each_entry c ys) same
-each_append ((p, t) ∷ xs) ys a b e = parses (λ c f. each_append xs ys c b f) (parsed (validate p true)) e
-  where
-    -- the rest of the list, from any arena
-    More : Type 0
-    More = (c : Arena ℕ) → each_entry c xs ≡ Ok b → each_entry c (xs ++ ys) ≡ each_entry b ys
-
-    ends : (placed : NodeId × Bool × Arena ℕ) → Outcome (Arena ℕ)
-    ends placed = when not placed.1 then push_terminal placed.2 placed.0 t else Ok placed.2
-
-    joins : More → (m : Outcome (Arena ℕ)) → (m >>= (λ c. each_entry c xs)) ≡ Ok b → (m >>= (λ c. each_entry c (xs ++ ys))) ≡ each_entry b ys
-    joins more (Ok c) e = more c e
-    joins more (Err f) e = absurd (cc)
-    joins more Panic e = absurd (cc)
-
-    places : More → (m : Outcome (NodeId × Bool × Arena ℕ)) → (m >>= (λ placed. ends placed >>= (λ c. each_entry c xs))) ≡ Ok b
-        → (m >>= (λ placed. ends placed >>= (λ c. each_entry c (xs ++ ys)))) ≡ each_entry b ys
-    places more (Ok placed) e = joins more (ends placed) e
-    places more (Err f) e = absurd (cc)
-    places more Panic e = absurd (cc)
-
-    parses : More → (m : Outcome ℕ) → (m >>= (λ depth. each_token t ROOT a (tokens p) >>= (λ placed. ends placed >>= (λ c. each_entry c xs)))) ≡ Ok b
-        → (m >>= (λ depth. each_token t ROOT a (tokens p) >>= (λ placed. ends placed >>= (λ c. each_entry c (xs ++ ys))))) ≡ each_entry b ys
-    parses more (Ok depth) e = places more (each_token t ROOT a (tokens p)) e
-    parses more (Err f) e = absurd (cc)
-    parses more Panic e = absurd (cc)
+each_append ((p, t) ∷ xs) ys a b e =
+    carried (λ depth. carried (λ placed. carried (λ c. each_append xs ys c b) (when not placed.1 then push_terminal placed.2 placed.0 t else Ok placed.2)) (each_token t ROOT a (tokens p)))
+    (parsed (validate p true)) e
 
 module _ (std : Std) (store : List ℕ) (es : List Entry) (says : Answer) (k : FirstBad store es says) (few : length es ≤ 2048) where
   parts : pairs (read_from store es) ≡ pairs (read_from store k.front) ++ (pair (record { pattern = text_of store k.entry; target = target_word k.entry }) ∷ pairs (read_from store k.rest))

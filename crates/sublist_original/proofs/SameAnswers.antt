@@ -18,13 +18,13 @@ use Rattle.subject_rules.specs.Choice.{pick}
 use Rattle.subject_rules.specs.Text.{tokens}
 use Rattle.subject_rules.specs.Utf8.{first_bad}
 use Rattle.subject_rules.specs.Fnv.{fnv}
-use Rattle.subject_rules.specs.Answers.{Answer, answer, unless, when_accepted}
+use Rattle.subject_rules.specs.Answers.{Answer, answer, unless}
 use Rattle.subject_rules.specs.Original as subject
-use Rattle.subject_rules.specs.Original.{Error, Empty, EmptyToken, IllegalChar, ControlChar, WildcardNotAllowed, TailWildcardNotLast, TooDeep, validate, answer_of}
+use Rattle.subject_rules.specs.Original.{Error, validate, answer_of}
 use Rattle.subject_rules.proofs.SameGrammar.{grammar_original}
+use Rattle.subject_rules.proofs.SameMatching.{error-number, refusal_stands}
 use Rattle.sublist_tree.specs.Lists.{All}
 use Rattle.sublist_tree.specs.Tree.{walk, peak, worst}
-use Rattle.sublist_tree.specs.Nodes.{nodes}
 use Rattle.sublist_tree.specs.Table.{entry_line, Accepted}
 use Rattle.sublist_tree.proofs.Hash.{hash_fork}
 use Rattle.sublist_walk_rules.specs.Walk.{found, walk_over}
@@ -49,15 +49,6 @@ use Rattle.sublist_original.proofs.Accepting.{insert_accepts}
 use Rattle.sublist_original.proofs.SameTable.{build-refused, build-accepted, match_original}
 
 -- ---- the list
-
-refusal_stands : (e : Error) (after : Answer) → when_accepted (answer_of (subject.Err e)) after ≡ answer_of (subject.Err e)
-refusal_stands Empty after = refl
-refusal_stands (EmptyToken index) after = refl
-refusal_stands (IllegalChar ch index) after = refl
-refusal_stands (ControlChar ch index) after = refl
-refusal_stands (WildcardNotAllowed ch index) after = refl
-refusal_stands (TailWildcardNotLast index) after = refl
-refusal_stands (TooDeep depth) after = refl
 
 insert_parses : (builder : SublistBuilder ℕ) (pattern : List ℕ) (target : ℕ) (e : Error) → insert builder pattern target ≡ subject.Err e → validate pattern true ≡ subject.Err e
 insert_parses builder pattern target e q = go (validate pattern true) q
@@ -98,13 +89,7 @@ module _ (pattern : List ℕ) (short : length pattern ≤ 4096) (utf8 : first_ba
 
 -- a refused subject, over any table
 refusal-first : (e : Error) (out : List ℕ) (after : Outcome) → if_parsed (answer_of (subject.Err e)) out after ≡ outcome (answer_of (subject.Err e)) out
-refusal-first Empty out after = refl
-refusal-first (EmptyToken index) out after = refl
-refusal-first (IllegalChar ch index) out after = refl
-refusal-first (ControlChar ch index) out after = refl
-refusal-first (WildcardNotAllowed ch index) out after = refl
-refusal-first (TailWildcardNotLast index) out after = refl
-refusal-first (TooDeep depth) out after = refl
+refusal-first e out after = rw (error-number e).2
 
 pub match_same-refusal : (n m : ℕ) (a ts text out : List ℕ) → length text ≤ 4096 → first_bad text ≡ none → (e : Error) → validate text false ≡ subject.Err e
     → match_table n m a ts text out ≡ outcome (answer_of (subject.Err e)) out
@@ -131,36 +116,26 @@ module _ (std : Std) (es : List Entry) (store : List ℕ) (few : length es ≤ 2
   unfolding worst_of
   worst-is = refl
 
-  needed-is : needed store es ≡ length (nodes eqb (lines_of store es))
-  unfolding needed
-  needed-is = refl
-
   module _ (generation : ℕ) where
-    -- `build` gives one of two
-    refused_over : (error : SublistError) → build std (builder_of (read_from store es)) generation ≡ Err error → (1024 < worst_of store es) × (error ≡ ForkLimitExceeded (worst_of store es) 1024)
-    refused_over error made = go (dec_lt 1024 (worst eqb 32 (lines_of store es)))
-      where
-        go : Dec (1024 < worst eqb 32 (lines_of store es)) → (1024 < worst_of store es) × (error ≡ ForkLimitExceeded (worst_of store es) 1024)
-        go (yes over) =
-            let e = build-refused std (read_from store es) as_many (builder_of (read_from store es)) entries-inserted generation over in
-            (rw worst-is over, rw worst-is (cc))
-        go (no under) =
-            let e = build-accepted std (read_from store es) as_many (builder_of (read_from store es)) entries-inserted generation (omega arith) in
-            let z : ◌≡◌ {A = ℕ} 0 1 = cc e.1 in
-            absurd (omega arith)
+    -- what holds of what `build` gives, which is a table or one refusal
+    abbrev Given : original.Outcome (Sublist ℕ) → Type 0
+    Given (Ok table) = (worst_of store es ≤ 1024) × (node_count table ≡ needed store es) × (table.generation ≡ generation)
+    Given (Err (ForkLimitExceeded worst_case limit)) = (1024 < worst_of store es) × (worst_case ≡ worst_of store es) × (limit ≡ 1024)
+    Given (Err (InvalidPattern e)) = ⊥
+    Given Panic = ⊥
 
-    table_under : (table : Sublist ℕ) → build std (builder_of (read_from store es)) generation ≡ Ok table → (worst_of store es ≤ 1024) × (node_count table ≡ needed store es) × (table.generation ≡ generation)
-    table_under table made = go (dec_lt 1024 (worst eqb 32 (lines_of store es)))
+    given : Given (build std (builder_of (read_from store es)) generation)
+    unfolding worst_of needed
+    given = go (dec_lt 1024 (worst eqb 32 (lines_of store es)))
       where
-        go : Dec (1024 < worst eqb 32 (lines_of store es)) → (worst_of store es ≤ 1024) × (node_count table ≡ needed store es) × (table.generation ≡ generation)
-        go (yes over) =
-            let e = build-refused std (read_from store es) as_many (builder_of (read_from store es)) entries-inserted generation over in
-            let z : ◌≡◌ {A = ℕ} 0 1 = cc in
-            absurd (omega arith)
+        go : Dec (1024 < worst eqb 32 (lines_of store es)) → Given (build std (builder_of (read_from store es)) generation)
+        go (yes over) = rw (build-refused std (read_from store es) as_many (builder_of (read_from store es)) entries-inserted generation over) (over, refl, refl)
         go (no under) =
             let e = build-accepted std (read_from store es) as_many (builder_of (read_from store es)) entries-inserted generation (omega arith) in
-            let same : e.0 ≡ table = cc e.1 in
-            (rw worst-is (omega arith), rw (← same, needed-is) e.2, rw (← same) e.3)
+            rw e.1 (omega arith, e.2, e.3)
+
+    of_made : (m : original.Outcome (Sublist ℕ)) → build std (builder_of (read_from store es)) generation ≡ m → Given m
+    of_made m made = rw (← made) given
 
     -- 14 and 15 do not meet the entries either
     module _ (room places : ℕ) (fits : needed store es ≤ room) (wide : length es ≤ places) where
@@ -172,35 +147,19 @@ module _ (std : Std) (es : List Entry) (store : List ℕ) (few : length es ≤ 2
       same-refusal : (worst_case limit : ℕ) → build std (builder_of (read_from store es)) generation ≡ Err (ForkLimitExceeded worst_case limit)
           → build_says es store room places generation ≡ answer 16 (worst_case ∷ limit ∷ [])
       same-refusal worst_case limit made =
-          let w = refused_over (ForkLimitExceeded worst_case limit) made in
-          let same = w.1 in
-          let one : worst_case ≡ worst_of store es = cc in
-          let two : limit ≡ 1024 = cc in
-          rw (says, lt-ltb 1024 (worst_of store es) w.0, one, two)
+          let w = of_made (Err (ForkLimitExceeded worst_case limit)) made in
+          rw (says, lt-ltb 1024 (worst_of store es) w.0, w.1, w.2)
 
       same-says : (table : Sublist ℕ) → build std (builder_of (read_from store es)) generation ≡ Ok table
           → build_says es store room places generation ≡ answer 0 (node_count table ∷ worst_of store es ∷ table.generation ∷ [])
       same-says table made =
-          let w = table_under table made in
+          let w = of_made (Ok table) made in
           rw (says, le-ltb 1024 (worst_of store es) w.0, w.1, w.2)
 
     fork_refused : (a ts : List ℕ) → needed store es ≤ length a / 16 → length es ≤ length ts → (worst_case limit : ℕ)
         → build std (builder_of (read_from store es)) generation ≡ Err (ForkLimitExceeded worst_case limit) → (build_into es store a ts generation).says ≡ answer 16 (worst_case ∷ limit ∷ [])
     unfolding build_into
     fork_refused a ts fits wide worst_case limit made = same-refusal (length a / 16) (length ts) fits wide worst_case limit made
-
-    never_panics : build std (builder_of (read_from store es)) generation ≡ Panic → ⊥
-    never_panics made = go (dec_lt 1024 (worst eqb 32 (lines_of store es)))
-      where
-        go : Dec (1024 < worst eqb 32 (lines_of store es)) → ⊥
-        go (yes over) =
-            let e = build-refused std (read_from store es) as_many (builder_of (read_from store es)) entries-inserted generation over in
-            let z : ◌≡◌ {A = ℕ} 0 1 = cc in
-            omega arith
-        go (no under) =
-            let e = build-accepted std (read_from store es) as_many (builder_of (read_from store es)) entries-inserted generation (omega arith) in
-            let z : ◌≡◌ {A = ℕ} 0 1 = cc e.1 in
-            omega arith
 
     -- ---- the walk, over what our build leaves in areas that hold the table
 
@@ -214,7 +173,7 @@ module _ (std : Std) (es : List Entry) (store : List ℕ) (few : length es ≤ 2
       same-list : (text out : List ℕ) → Plain text → (n : ℕ) → validate text false ≡ subject.Ok n
           → found_in text out ≡ written (found (theirs text) (peak eqb (map fnv (tokens text)) (lines_of store es ∷ []))) out
       same-list text out plain n parsed =
-          let w = table_under table made in
+          let w = of_made (Ok table) made in
           let t : Taken es store (length a / 16) (length ts) = record { few = few; sound = sound; fits = fits; wide = wide; fork = w.0 } in
           let narrow : peak eqb (map fnv (tokens text)) (lines_of store es ∷ []) ≤ 1024 = omega (arith, hash_fork (map fnv (tokens text)) (read_from store es) accepted, worst-is, w.0) in
           match_holds (node_words_in (build_leaves es store a ts)) (needed store es) (length es) (target_words_in (build_leaves es store a ts)) (lines_of store es) (build_stands es store a ts t) text out narrow
@@ -235,7 +194,7 @@ module _ (std : Std) (es : List Entry) (store : List ℕ) (few : length es ≤ 2
       same-table = record {
         worst_case = worst_of store es;
         says = same-says (length a / 16) (length ts) fits wide table made;
-        finds = λ text out plain. rw (table_under table made).1 (same_match text out plain);
+        finds = λ text out plain. rw (of_made (Ok table) made).1 (same_match text out plain);
       }
 
 first-refused : (es : List Entry) (store a ts : List ℕ) (generation : ℕ) → length es ≤ 2048 → (r : Answer) → bad_entries store 0 es ≡ some r → (build_into es store a ts generation).says ≡ r
@@ -253,9 +212,9 @@ build-same std es store few inside plain a ts generation fits wide = go (bad_ent
 
     sound-build : bad_entries store 0 es ≡ none → (m : original.Outcome (Sublist ℕ)) → build std (builder_of (read_from store es)) generation ≡ m → SameBuild std m (length es) o
     sound-build q (Ok table) made = same-table std es store few q generation a ts fits wide table made
-    sound-build q (Err (InvalidPattern e)) made = let w = refused_over std es store few q generation (InvalidPattern e) made in let z : ◌≡◌ {A = ℕ} 0 1 = cc w.1 in absurd (omega arith)
+    sound-build q (Err (InvalidPattern e)) made = absurd (of_made std es store few q generation (Err (InvalidPattern e)) made)
     sound-build q (Err (ForkLimitExceeded worst limit)) made = fork_refused std es store few q generation a ts fits wide worst limit made
-    sound-build q Panic made = never_panics std es store few q generation made
+    sound-build q Panic made = of_made std es store few q generation Panic made
 
     go : (b : Option Answer) → bad_entries store 0 es ≡ b → SameBuild std (build std (builder_of (read_from store es)) generation) (length es) o
     go none q = sound-build q (build std (builder_of (read_from store es)) generation) refl

@@ -6,20 +6,19 @@ use native.Mathlib.Omega.{arith}
 use mathlib.Core.Path.{◌≡◌, refl, sym, ◌∙◌, ap, subst}
 use mathlib.Core.Bool.{Bool, true, false}
 use mathlib.Core.List.{List, [], ◌∷◌, ◌++◌, map-append}
-use mathlib.Core.Option.{Option, none, some}
-use lib.Dec.{eqb, ltb, leb}
+use lib.Dec.{ltb, leb}
 use lib.ListN.{length, length-append, length-map}
-use borrow.Author.Tests.{ltb-false, leb-false}
+use borrow.Author.Tests.{leb-false}
+use Rattle.std.proofs.lemmas.Bool.{true≢false}
 use Rattle.subject_rules.specs.Choice.{pick, or}
-use Rattle.subject_rules.specs.Text.{tokens}
-use Rattle.subject_rules.specs.Utf8.{first_bad}
-use Rattle.subject_rules.specs.Answers.{Answer, answer, unless, when_accepted}
-use Rattle.subject_rules.specs.Grammar.{not_utf8, check, grammar}
+use Rattle.subject_rules.specs.Answers.{Answer, answer, when_accepted}
+use Rattle.subject_rules.specs.Grammar.{grammar}
 use Rattle.subject_rules.specs.Original as subject
 use Rattle.subject_rules.specs.Original.{validate, answer_of}
-use Rattle.subject_rules.proofs.SameGrammar.{grammar_original}
+use Rattle.subject_rules.proofs.SameGrammar.{grammar_original, TextKind, overlong, wrong, plain, kind_of}
 use Rattle.sublist_tree.specs.Lists.{All}
 use Rattle.sublist_tree.specs.Table.{TableEntry, Accepted}
+use Rattle.sublist_tree.proofs.Sorting.{All-append}
 use Rattle.sublist_entries.specs.declared.Entry.{Entry}
 use Rattle.sublist_entries.specs.Entries.{in_use, text_of, target_word, word32, read_from}
 use Rattle.sublist_entries.specs.Inserting.{after_answer}
@@ -38,14 +37,15 @@ use Rattle.sublist_original.proofs.SameAnswers.{build-same}
 
 -- a text refused by a number that is not added is UTF-8 of at most 4,096 bytes
 refused-plain : (wild : Bool) (bs : List ℕ) (n : ℕ) (values : List ℕ) → grammar wild bs ≡ answer n values → added_refusal (answer n values) ≡ false → Plain bs
-unfolding grammar
-refused-plain wild bs n values e f = go (ltb 4096 (length bs)) refl (first_bad bs) refl e
+refused-plain wild bs n values e f = go (kind_of wild bs)
   where
-    go : (b : Bool) → ltb 4096 (length bs) ≡ b → (o : Option ℕ) → first_bad bs ≡ o
-        → pick b (answer 1 []) (unless (not_utf8 o) (pick (eqb (length bs) 0) (answer 3 []) (check wild none 0 (tokens bs)))) ≡ answer n values → Plain bs
-    go true l o u e = let z : added_refusal (answer 1 []) ≡ false = ap added_refusal e ∙ f in absurd (cc)
-    go false l (some i) u e = let z : added_refusal (answer 2 (i ∷ [])) ≡ false = ap added_refusal e ∙ f in absurd (cc)
-    go false l none u e = (ltb-false 4096 (length bs) l, u)
+    added : (a : Answer) → grammar wild bs ≡ a → added_refusal a ≡ false
+    added a g = ap added_refusal (sym g ∙ e) ∙ f
+
+    go : TextKind wild bs → Plain bs
+    go (overlong g) = absurd (true≢false (added (answer 1 []) g))
+    go (wrong i g) = absurd (true≢false (added (answer 2 (i ∷ [])) g))
+    go (plain s u) = (s, u)
 
 module _ (taken : List TableEntry) (d : Desk) (e : TableEntry) where
   abbrev full : Bool
@@ -65,14 +65,14 @@ module _ (taken : List TableEntry) (d : Desk) (e : TableEntry) where
       go (answer (suc m) us) p b c q = p ∙ q
       go (answer zero us) p true c q = let z : added_refusal (answer 10 []) ≡ false = ap added_refusal q ∙ f in absurd (cc)
       go (answer zero us) p false true q = let z : added_refusal (answer 11 []) ≡ false = ap added_refusal q ∙ f in absurd (cc)
-      go (answer zero us) p false false q = let z : 0 ≡ suc n = cc in absurd (omega (arith, z))
+      go (answer zero us) p false false q = absurd (cc)
 
   accepted-text : (values : List ℕ) → demanded taken d e ≡ answer 0 values → ((n : ℕ) × (grammar true e.pattern ≡ answer 0 (n ∷ []))) × (length taken < 2048)
   accepted-text values q = go (grammar true e.pattern) refl (leb 2048 (length taken)) refl (leb (length d.places) (length taken)) long q
     where
       go : (g : Answer) → grammar true e.pattern ≡ g → (b : Bool) → leb 2048 (length taken) ≡ b → (c h : Bool) → by g (or b c) h ≡ answer 0 values
           → ((n : ℕ) × (grammar true e.pattern ≡ answer 0 (n ∷ []))) × (length taken < 2048)
-      go (answer (suc m) us) p b r c h q = let z : suc m ≡ 0 = cc in absurd (omega (arith, z))
+      go (answer (suc m) us) p b r c h q = absurd (cc)
       go (answer zero us) p true r c h q = absurd (cc)
       go (answer zero us) p false r c h q = (not_invalid e.pattern (rw p), leb-false 2048 (length taken) r)
 
@@ -84,10 +84,6 @@ record Beside (taken : List TableEntry) (d : Desk) (builder : SublistBuilder ℕ
   same : builder ≡ builder_of taken
   patterns : All Accepted taken
   few : length taken ≤ 2048
-
-all_more : (P : TableEntry → Type 0) (xs : List TableEntry) (x : TableEntry) → All P xs → P x → All P (xs ++ (x ∷ []))
-all_more P [] x a p = (p, tt)
-all_more P (y ∷ xs) x a p = (a.0, all_more P xs x a.1 p)
 
 module _ (taken : List TableEntry) (d : Desk) (builder : SublistBuilder ℕ) (j : Beside taken d builder) (e : TableEntry) where
   abbrev joined : TableEntry
@@ -114,7 +110,7 @@ module _ (taken : List TableEntry) (d : Desk) (builder : SublistBuilder ℕ) (j 
         record {
           stands = stands_as (answer 0 values) q;
           same = ap (λ (b : SublistBuilder ℕ). record { entries = push b.entries (pair joined) }) j.same ∙ ap (λ l. record { entries = l }) (sym (map-append pair taken (joined ∷ [])));
-          patterns = all_more Accepted taken joined j.patterns w.0;
+          patterns = All-append Accepted taken (joined ∷ []) j.patterns (w.0, tt);
           few = omega (arith, w.1, length-append taken (joined ∷ []));
         },
       )
@@ -128,7 +124,7 @@ module _ (taken : List TableEntry) (d : Desk) (builder : SublistBuilder ℕ) (j 
 
         theirs : (v : subject.Result ℕ) → validate e.pattern true ≡ v → answer_of v ≡ answer (suc n) values
             → SameInsert (answer (suc n) values) (insert builder e.pattern (word32 e.target)) builder Rest
-        theirs (subject.Ok m) v r = let z : 0 ≡ suc n = cc in absurd (omega (arith, z))
+        theirs (subject.Ok m) v r = absurd (cc)
         theirs (subject.Err f) v r = rw v (sym r, on)
 
         go : (b : Bool) → added_refusal (answer (suc n) values) ≡ b → pick b (Rest builder) (SameInsert (answer (suc n) values) (insert builder e.pattern (word32 e.target)) builder Rest)

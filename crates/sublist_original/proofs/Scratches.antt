@@ -53,7 +53,7 @@ find_none [] h c e m = m
 find_none ((g, n) ∷ xs) h c e m = go (eqb g h) refl e m (find_none xs h c)
   where
     go : (b : Bool) → eqb g h ≡ b → pick b (some n) (find xs h) ≡ none → In {A = Literal} (h, c) ((g, n) ∷ xs) → (find xs h ≡ none → In {A = Literal} (h, c) xs → ⊥) → ⊥
-    go true b e m ih = let z : ◌≡◌ {A = ℕ} 0 1 = cc in omega arith
+    go true b e m ih = cc
     go false b e (inl d) ih = eqb-false g h b (sym (ap (λ (x : Literal). x.0) d))
     go false b e (inr m) ih = ih e m
 

@@ -3,6 +3,7 @@ use Prim.Native.Nat.{ℕ, ◌≤◌, ◌<◌}
 use native.Mathlib.Omega.{arith}
 use native.Mathlib.Decide.{ℕ_discrete}
 use mathlib.Core.Path.{◌≡◌, refl, sym, ◌∙◌, ap}
+use mathlib.Core.Logic.{inl}
 use mathlib.Core.Bool.{Bool, true, false}
 use mathlib.Core.List.{List, [], ◌∷◌, ◌++◌, map, append-nil, append_assoc}
 use mathlib.Core.Option.{Option, none, some}
@@ -19,7 +20,7 @@ use Rattle.sublist_tree.proofs.Fork.{Within, peak-worst}
 use Rattle.sublist_tree.proofs.Bytes.{eqb_sound, eqb_whole}
 use Rattle.sublist_trie.proofs.Trie.{size, child, built, keep, front}
 use Rattle.sublist_trie.proofs.Children.{built_for}
-use Rattle.sublist_tree.proofs.Members.{Distinct}
+use Rattle.sublist_tree.proofs.Members.{Distinct, All-in, All-at, in_left, in_right}
 use Rattle.sublist_trie.proofs.Growth.{good_built}
 use Rattle.sublist_trie.proofs.For.{left_of}
 use Rattle.sublist_trie.proofs.Frontier.{Inside, widest, front_inside, front_distinct, left-root, root-inside, root-peak}
@@ -35,19 +36,11 @@ use Rattle.sublist_original.proofs.Tables.{Tabled}
 
 distinct-left : (xs ys : List ℕ) → Distinct (xs ++ ys) → Distinct xs
 distinct-left [] ys d = tt
-distinct-left (x ∷ xs) ys d = (all_left xs d.0, distinct-left xs ys d.1)
-  where
-    all_left : (zs : List ℕ) → All (λ y. x ≡ y → ⊥) (zs ++ ys) → All (λ y. x ≡ y → ⊥) zs
-    all_left [] a = tt
-    all_left (z ∷ zs) a = (a.0, all_left zs a.1)
+distinct-left (x ∷ xs) ys d = (All-in (λ y. x ≡ y → ⊥) xs (λ y m. All-at (λ z. x ≡ z → ⊥) (xs ++ ys) d.0 y (in_left y xs ys m)), distinct-left xs ys d.1)
 
 distinct-last : (xs : List ℕ) (j : ℕ) → Distinct (xs ++ (j ∷ [])) → All (λ x. x ≡ j → ⊥) xs
 distinct-last [] j d = tt
-distinct-last (x ∷ xs) j d = (last xs d.0, distinct-last xs j d.1)
-  where
-    last : (zs : List ℕ) → All (λ y. x ≡ y → ⊥) (zs ++ (j ∷ [])) → x ≡ j → ⊥
-    last [] a = a.0
-    last (z ∷ zs) a = last zs a.1
+distinct-last (x ∷ xs) j d = (All-at (λ y. x ≡ y → ⊥) (xs ++ (j ∷ [])) d.0 j (in_right j xs (j ∷ []) (inl refl)), distinct-last xs j d.1)
 
 keep_append : (j : ℕ) (l : List ℕ) → keep eqb j l ≡ keep eqb j [] ++ l
 keep_append j l = go (eqb j 0)

@@ -1,5 +1,5 @@
 -- A match through the snapshot reads the two parts of its area: the words of the standing table's nodes and its targets, as far as the area goes.
-use Rattle.std.proofs.Common.{◌≡◌, ℕ, zero, suc, false, List, [], ◌∷◌, Result, Ok, Err, sym, refl, ap, ◌∙◌, arith}
+use Rattle.std.proofs.Common.{◌≡◌, ℕ, zero, suc, false, List, [], ◌∷◌, Result, Ok, Err, sym, refl, ap, ◌∙◌}
 use Rattle.subject.specs.declared.SubjectError.{SubjectError}
 use Rattle.subject_rules.specs.Answers.{Answer, answer, when_accepted}
 use Rattle.subject.specs.Answers.{refusal, parsed}

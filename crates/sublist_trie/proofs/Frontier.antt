@@ -1,12 +1,10 @@
 -- The frontier by node numbers is the frontier of the lines left below them, node by node.
 use Prim.Native.Nat.{ℕ, ◌<◌, max}
-use native.Mathlib.Omega.{arith}
-use native.Mathlib.Decide.{ℕ_discrete}
 use mathlib.Core.Path.{◌≡◌, refl, sym, ◌∙◌, ap}
 use mathlib.Core.Bool.{Bool, true}
 use mathlib.Core.List.{List, [], ◌∷◌, ◌++◌, map}
 use lib.ListN.{length, length-map}
-use borrow.Author.Tests.{eq-eqb, ne_eqb}
+use Rattle.subject_rules.proofs.Booleans.{by_eqb}
 use Rattle.sublist_tree.specs.Lists.{All}
 use Rattle.sublist_tree.specs.Tree.{Key, star, lit, Line, present, below, step, peak, left_at}
 use Rattle.sublist_trie.proofs.Trie.{Trie, size, run, parent_of, child, Good, keep, front}
@@ -39,18 +37,10 @@ present_some (l ∷ ls) ne = refl
 
 module _ {K : Type 0} (eq : K → K → Bool) where
   keep_all : (P : ℕ → Type 0) (j : ℕ) (l : List ℕ) → ((j ≡ 0 → ⊥) → P j) → All P l → All P (keep eq j l)
-  keep_all P j l f a = go (ℕ_discrete j 0)
-    where
-      go : Dec (j ≡ 0) → All P (keep eq j l)
-      go (yes z) = rw (eq-eqb j 0 z) a
-      go (no ne) = rw (ne_eqb j 0 ne) (f ne, a)
+  keep_all P j l f a = by_eqb (All P) j 0 l (j ∷ l) (λ z. a) (λ ne. (f ne, a))
 
   keep-distinct : (j : ℕ) (l : List ℕ) → ((j ≡ 0 → ⊥) → All (λ i. j ≡ i → ⊥) l) → Distinct l → Distinct (keep eq j l)
-  keep-distinct j l f a = go (ℕ_discrete j 0)
-    where
-      go : Dec (j ≡ 0) → Distinct (keep eq j l)
-      go (yes z) = rw (eq-eqb j 0 z) a
-      go (no ne) = rw (ne_eqb j 0 ne) (f ne, a)
+  keep-distinct j l f a = by_eqb Distinct j 0 l (j ∷ l) (λ z. a) (λ ne. (f ne, a))
 
   -- the next frontier has nodes of the tree
   pub front_inside : (t : Trie K) (h : K) (fr : List ℕ) → Inside t (front eq t h fr)
@@ -74,7 +64,7 @@ module _ {K : Type 0} (eq : K → K → Bool) where
         (snoc_inj (run t i) (run t i) k l (sym a ∙ ap (run t) e ∙ b)).1
 
     pub star_literal : (t : Trie K) (i : ℕ) (h : K) → Good eq t → (child eq t i (lit h) ≡ 0 → ⊥) → child eq t i (lit h) ≡ child eq t i star → ⊥
-    star_literal t i h g ne e = let q = child_key t i (lit h) star g ne e in let z : ◌≡◌ {A = ℕ} 0 1 = cc in omega arith
+    star_literal t i h g ne e = let q = child_key t i (lit h) star g ne e in cc
 
     -- the parents of the next frontier are in this one
     front_parents : (P : ℕ → Type 0) (t : Trie K) (h : K) (fr : List ℕ) → Good eq t → All P fr → All (λ j. P (parent_of t j)) (front eq t h fr)
@@ -112,13 +102,10 @@ module _ {K : Type 0} (eq : K → K → Bool) where
     module _ (ls : List (Line K)) (t : Trie K) (of : For eq ls t) where
       keep-present : (i : ℕ) (k : Key K) (fr : List ℕ) → i < size t
           → map (left_of eq ls t) (keep eq (child eq t i k) fr) ≡ present (below eq k (left_of eq ls t i)) ++ map (left_of eq ls t) fr
-      keep-present i k fr h = go (ℕ_discrete (child eq t i k) 0)
-        where
-          go : Dec (child eq t i k ≡ 0) → map (left_of eq ls t) (keep eq (child eq t i k) fr) ≡ present (below eq k (left_of eq ls t i)) ++ map (left_of eq ls t) fr
-          go (yes z) = rw (eq-eqb (child eq t i k) 0 z, child_none eq sound whole ls t of i k h z)
-          go (no ne) =
-              let s = child_some eq sound whole ls t of i k ne in
-              rw (ne_eqb (child eq t i k) 0 ne, s.1, present_some (below eq k (left_of eq ls t i)) s.0)
+      keep-present i k fr h =
+          by_eqb (λ l. map (left_of eq ls t) l ≡ present (below eq k (left_of eq ls t i)) ++ map (left_of eq ls t) fr) (child eq t i k) 0 fr (child eq t i k ∷ fr)
+          (λ z. rw (child_none eq sound whole ls t of i k h z))
+          (λ ne. let s = child_some eq sound whole ls t of i k ne in rw (s.1, present_some (below eq k (left_of eq ls t i)) s.0))
 
       -- one token
       pub front_step : (h : K) (fr : List ℕ) → Inside t fr → map (left_of eq ls t) (front eq t h fr) ≡ step eq h (map (left_of eq ls t) fr)

@@ -19,12 +19,12 @@ use Rattle.sublist_trie.proofs.Runs.{size_pos, run_root, run_inj}
 use Rattle.sublist_trie.proofs.Left.{nil_left, nil_right, some_part, left_cons, left_none, left_own, left-begins}
 use Rattle.sublist_trie.proofs.For.{At, For}
 
-in_map : {A B : Type 0} (f : A → B) (x : A) (xs : List A) → In x xs → In (f x) (map f xs)
+pub in_map : {A B : Type 0} (f : A → B) (x : A) (xs : List A) → In x xs → In (f x) (map f xs)
 in_map f x [] m = absurd m
 in_map f x (y ∷ xs) (inl e) = inl (ap f e)
 in_map f x (y ∷ xs) (inr m) = inr (in_map f x xs m)
 
-map_in : {A B : Type 0} (f : A → B) (y : B) (xs : List A) → In y (map f xs) → (x : A) × In x xs × (y ≡ f x)
+pub map_in : {A B : Type 0} (f : A → B) (y : B) (xs : List A) → In y (map f xs) → (x : A) × In x xs × (y ≡ f x)
 map_in f y [] m = absurd m
 map_in f y (x ∷ xs) (inl e) = (x, inl refl, e)
 map_in f y (x ∷ xs) (inr m) = let w = map_in f y xs m in (w.0, inr w.1, w.2)

@@ -8,9 +8,6 @@ use Rattle.sublist_walk_rules.specs.declared.Failure.TheVariants.{Wide}
 use Rattle.sublist_walk.specs.declared.Counted.{Counted}
 use Rattle.sublist_walk.specs.declared.TableMatch.{TableMatch}
 use Rattle.sublist_walk.specs.declared.MatchError.{MatchError}
-use Rattle.sublist_walk.specs.declared.MatchError.TheVariants as error
-use Rattle.sublist_walk.specs.declared.TryError.{TryError}
-use Rattle.sublist_walk.specs.declared.TryError.TheVariants.{Damaged, OutShort}
 use Rattle.sublist_walk_rules.specs.Walk.{Level, level, broken, Walked, found, failed}
 use Rattle.sublist_walk_rules.specs.Walk.{collect, visit, visits, exact, walk_over}
 use Rattle.subject_rules.specs.Outputs.{outcome}
@@ -66,11 +63,6 @@ abbrev pub Ends : Result TableMatch Failure → List ℕ → List ℕ → Walked
 Ends (Ok m) out after w = Finds w m.count m.peak out after
 Ends (Err why) out after w = w ≡ failed why
 
--- why a match within a limit turns back, as told outside
-abbrev pub settled : TryError → MatchError
-settled Damaged = error.Damaged
-settled (OutShort needed) = error.OutShort needed
-
 -- the walk w does not pass its limit, and the match answers r
 pub record Answers (r : Result TableMatch MatchError) (out after : List ℕ) (w : Walked) : Type 0 where
   pub fits : w ≡ failed Wide → ⊥
@@ -78,7 +70,7 @@ pub record Answers (r : Result TableMatch MatchError) (out after : List ℕ) (w 
 
 -- what a match within a limit says, where its walk is w: an answer; or that a frontier would pass the limit, and the
 -- output is as it was
-abbrev pub Tries : Result (Option TableMatch) TryError → List ℕ → List ℕ → Walked → Type 0
+abbrev pub Tries : Result (Option TableMatch) MatchError → List ℕ → List ℕ → Walked → Type 0
 Tries (Ok (Some m)) out after w = Answers (Ok m) out after w
 Tries (Ok None) out after w = (w ≡ failed Wide) × (after ≡ out)
-Tries (Err e) out after w = Answers (Err (settled e)) out after w
+Tries (Err e) out after w = Answers (Err e) out after w

@@ -7,13 +7,13 @@ ghost use Rattle.sublist_walk_rules.specs.Walk.{among, level, push};
 ghost use Rattle.subject_rules.specs.Outputs.{outcome};
 ghost use Rattle.sublist_walk_rules.specs.Matching.{counts_fit, match_parsed, match_table};
 ghost use Rattle.sublist_walk.specs.Answers.{match_answer};
-ghost use Rattle.sublist_walk.specs.Told.{collect_in, visit_in, visits_in, exact_in, walk_in, settled};
+ghost use Rattle.sublist_walk.specs.Told.{collect_in, visit_in, visits_in, exact_in, walk_in};
 ghost use Rattle.sublist_walk.specs.Told.{Joins, Lists, Ends, Tries};
 
 use std::marker::Model;
 use std::mem;
 use subject::{MAX_TEXT, SubjectError};
-use sublist_area::NODE_WORDS;
+use sublist_area::{EXACT_START, NODE_WORDS, TAIL_START};
 use sublist_area_rules::{Child, ChildKey};
 use sublist_walk_rules::Failure;
 
@@ -27,11 +27,6 @@ const SHORT_LIST: usize = 64;
 
 // The targets that a match with wider frontiers may have and be settled by one walk: as many as a build takes entries.
 const LONG_LIST: usize = 2048;
-
-// The words of a node where its exact targets start and where its `>` targets start; the next word counts them.
-const EXACT: usize = 4;
-
-const TAILS: usize = 6;
 
 // A table by its counts of nodes and targets, and the lent areas that have their words.
 #[derive(Clone, Copy)]
@@ -64,24 +59,6 @@ impl From<SubjectError> for MatchError {
 
     fn from(error: SubjectError) -> MatchError {
         MatchError::Invalid(error)
-    }
-}
-
-// Why a match within a limit turns back. Without the case of a refused text it is handed back faster.
-#[derive(Clone, Copy)]
-enum TryError {
-    Damaged,
-    OutShort(usize),
-}
-
-impl From<TryError> for MatchError {
-    ghost from_gives = { λ e r. r ≡ settled e };
-
-    fn from(error: TryError) -> MatchError {
-        match error {
-            TryError::Damaged => MatchError::Damaged,
-            TryError::OutShort(needed) => MatchError::OutShort(needed),
-        }
     }
 }
 
@@ -169,7 +146,8 @@ impl<const LIMIT: usize> Frontier<LIMIT> {
 }
 
 // Whether a node stands in a frontier. All are read: a loop with one way out compares several at once.
-// Kept: tried with `contains`, with which a match over short frontiers takes 1.06 to 1.13 times as long.
+// Kept: tried with `contains`: a match on 1,625 lines is then 1.82 times as fast as the original's, where at least 1.9
+// times is asked; with this loop it is 1.95 times (196 and 183 ns).
 #[tactic(auto, using(crate::proofs::Searches::among_more))]
 fn stands(front: &[u32], id: u32) -> bool
     ensures { result ≡ among id front.now }
@@ -191,7 +169,8 @@ fn word_at(words: &[u32], at: usize) -> usize
 
 // Words are copied over the first of an output, as many as there is room for. Most often there are none, which a loop
 // passes over at once.
-// Kept: tried with `copy_from_slice`, which calls memmove once a node: a short match takes 1.05 to 1.12 times as long.
+// Kept: tried with `copy_from_slice`, which calls memmove once a node: a match on 1,625 lines is then 1.70 times as
+// fast as the original's, where at least 1.9 times is asked; with this loop it is 1.95 times (209 and 183 ns).
 #[tactic(auto, using(crate::proofs::Stores::copies))]
 fn copy_part(words: &[u32], out: &mut [u32])
     ensures { out.new ≡ sets out.old 0 words.now }
@@ -229,7 +208,7 @@ fn visit<const LIMIT: usize>(
 ) -> Result<usize, Failure>
     ensures { Lists result to.new out.old out.new 1 (visit_in LIMIT table.now hash (level to.old []) node) }
 {
-    let count = collect(table, TAILS, node, out)?;
+    let count = collect(table, TAIL_START, node, out)?;
     let literal = sublist_area::child(table.node_words, table.nodes, node, ChildKey::Literal(hash));
     let star = sublist_area::child(table.node_words, table.nodes, node, ChildKey::Star);
     to.push(literal)?;
@@ -273,7 +252,7 @@ fn collect_exact<const LIMIT: usize>(
     let mut count = 0;
     for node in front.nodes() {
         let listed = out.len().min(count);
-        count += collect(table, EXACT, *node, &mut out[listed..])?;
+        count += collect(table, EXACT_START, *node, &mut out[listed..])?;
     }
     Ok(count)
 }
@@ -318,7 +297,7 @@ fn match_within<const LIMIT: usize, const LIST: usize>(
     counted: &Counted<'_>,
     subject: &[u8],
     out: &mut [u32],
-) -> Result<Option<TableMatch>, TryError>
+) -> Result<Option<TableMatch>, MatchError>
     requires { (0 < LIMIT)
         × (LIMIT ≤ 1024)
         × (LIST ≤ 2048)
@@ -331,10 +310,10 @@ fn match_within<const LIMIT: usize, const LIST: usize>(
     let found = match walk(counted, subject, &mut first, &mut second, &mut list) {
         Ok(found) => found,
         Err(Failure::Wide) => return Ok(None),
-        Err(Failure::Damaged) => return Err(TryError::Damaged),
+        Err(Failure::Damaged) => return Err(MatchError::Damaged),
     };
     if out.len() < found.count {
-        return Err(TryError::OutShort(found.count));
+        return Err(MatchError::OutShort(found.count));
     }
     if found.count <= LIST {
         copy_part(&list[..found.count], out);

@@ -18,6 +18,7 @@ fn verdict(is_right: bool) -> &'static str {
 }
 
 // One line for an answer: its number and its values.
+// Kept: the right answer's three numbers stand apart: with a CAnswer in their place most calls take six lines, not one.
 fn row(
     rt: &impl Print,
     name: &str,
@@ -84,8 +85,6 @@ fn characters(rt: &impl Print) -> io::Result<()> {
 
 // ---- Lists at the limit of a table's worst case: all runs of ten tokens out of `a` and `*`, and two patterns more.
 
-const TOKENS: usize = 10;
-
 const RUN_BYTES: usize = 19;
 
 const RUNS: usize = 1024;
@@ -101,6 +100,7 @@ const STORE_BYTES: usize = RUNS * RUN_BYTES + 42;
 const NODE_WORDS: usize = 2049 * 16;
 
 // A list in areas that hold all of it, and the areas of its table.
+// Kept: the program `replay` has such a list too; programs share only libraries, and one more for it is no plainer.
 #[derive(Drop)]
 struct List {
     entries: usize,
@@ -162,9 +162,9 @@ impl List {
 // The run of ten tokens out of `a` and `*` whose stars are the bits of a number.
 fn run(number: usize) -> [u8; RUN_BYTES] {
     let mut run = [b'.'; RUN_BYTES];
-    for i in 0..TOKENS {
+    for (i, token) in run.iter_mut().step_by(2).enumerate() {
         let is_star = (number >> i) % 2 == 1;
-        run[i * 2] = if is_star { b'*' } else { b'a' };
+        *token = if is_star { b'*' } else { b'a' };
     }
     run
 }

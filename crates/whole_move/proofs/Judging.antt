@@ -13,6 +13,7 @@ use Rattle.subject.specs.declared.SubjectError.{SubjectError}
 use Rattle.subject_rules.specs.Choice.{pick}
 use Rattle.subject_rules.specs.Answers.{Answer, answer}
 use Rattle.subject_rules.specs.Outputs.{over, Outcome, outcome}
+use Rattle.subject_rules.proofs.Depths.{number}
 use Rattle.subject.specs.Answers.{refusal}
 use Rattle.subject.proofs.Refusals.{refusal-number}
 use Rattle.sublist_walk_rules.specs.Walk.{Walked, found, failed}
@@ -28,10 +29,6 @@ use Rattle.binding.proofs.Judging.{home_many}
 use Rattle.whole_move.specs.declared.MoveError.{MoveError}
 use Rattle.whole_move.specs.declared.MoveError.TheVariants.{Damaged}
 use Rattle.whole_move.specs.Told.{Accepted, verdict_of}
-
--- an answer's number
-abbrev number : Answer → ℕ
-number (answer n values) = n
 
 -- an accepted subject, and counts that fit: a is what the match answers, by its walk
 module _ (s : Snapshot) (area subject out after : List ℕ) (stands : stands_in s area ≡ true) (accepted : Accepted subject) (a : Answer)

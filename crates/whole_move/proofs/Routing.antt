@@ -1,6 +1,6 @@
 -- What each turn over the subjects makes of `routes`.
 use Rattle.std.proofs.Math.Nat.{add-sub_cancel_left}
-use Rattle.std.proofs.Common.{◌≡◌, ℕ, ◌+◌, ◌-◌, ◌<◌, List, [], ◌++◌, length, map, get_or, take, drop, Result, Ok, Err, None, sym, ◌∙◌, drop-cons, add-one, arith}
+use Rattle.std.proofs.Common.{◌≡◌, ℕ, ◌+◌, ◌-◌, ◌<◌, List, [], ◌++◌, length, map, get_or, take, drop, Result, Ok, Err, None, sym, ◌∙◌, drop-cons, add-one}
 use Rattle.sublist_walk_rules.specs.Walk.{Walked, found, failed}
 use Rattle.binding.specs.declared.Resolution.{Resolution}
 use Rattle.binding.specs.declared.Resolution.TheVariants.{Routed, NoStream, Ambiguous}

@@ -1,11 +1,12 @@
 -- `resolve_cache::Slots::look_up` meets its contract. Assumes nothing.
-use Rattle.std.proofs.Common.{◌≡◌, ◌≤◌, Some, length, sym, ap, ◌∙◌, arith, length-take-le}
+use mathlib.Core.Option.{some}
+use Rattle.std.proofs.Common.{◌≡◌, ◌≤◌, length, sym, ap, ◌∙◌, arith, length-take-le}
 use Rattle.sublist_snapshot.specs.Snapshot.{match_in, match_parsed_in}
 use Rattle.sublist_snapshot.proofs.Fronts.{parsed_match}
-use Rattle.resolve_cache_rules.specs.Cache.{adopt, resolve}
+use Rattle.resolve_cache_rules.specs.Cache.{find_from, adopt, resolve}
 use Rattle.resolve_cache_rules.specs.Ready.{Small}
 use Rattle.resolve_cache_rules.proofs.Faithful.{accepted_some}
-use Rattle.resolve_cache.specs.Deciding.{FirstOf, area_of}
+use Rattle.resolve_cache.specs.Deciding.{area_of}
 use Rattle.resolve_cache.proofs.Resolving.{Asked, walking, asked_ready, walks, hit-short, hit-shown}
 use Rattle.resolve_cache.proofs.Keeping.{Lists, walk_refused, walk_lists, kept-walk}
 use Rattle.resolve_cache.proofs.Slots.look_up.Goals as goal
@@ -24,7 +25,7 @@ asked k = record {
 -- no slot in use keeps the subject
 missing : (k : In_default-find) → walking k.args.cache.now (area_of k.args.self.now) k.args.standing.now.snapshot k.args.standing.now.area.now k.args.subject.now k.args.out.now
     ≡ resolve k.args.cache.now (area_of k.args.self.now) k.args.standing.now.snapshot k.args.standing.now.area.now k.args.subject.now k.args.out.now
-missing k = walks _ _ _ _ _ _ _ (asked (goal.at.In_default-find k).After-adopt-current) (rw (k.in-Some.ensures.2, k.in-Some.ensures.1) at k.in_default-find.ensures)
+missing k = walks _ _ _ _ _ _ _ (asked (goal.at.In_default-find k).After-adopt-current) (rw (k.in-Some.ensures.2, k.in-Some.ensures.1) at (sym k.in_default-find.ensures.0))
 
 -- and the match of the parsed subject is the match
 matched : (k : In_default-find) → match_parsed_in k.args.standing.now.snapshot k.args.standing.now.area.now k.args.subject.now k.args.out.now
@@ -32,8 +33,8 @@ matched : (k : In_default-find) → match_parsed_in k.args.standing.now.snapshot
 matched k = parsed_match _ _ _ _ _ (sym k.in_ok-parse_literal.ensures)
 
 -- the slot that was found, and that no slot in use is bad
-first : (k : In-Some-find) → FirstOf k.args.cache.now.capacity k.args.self.now.keys.now k.args.subject.now 0 k.adopt-current.result.used (Some k.in-Some-find.slot)
-first k = rw (k.in-Some.ensures.2, k.in-Some.ensures.1) at k.in-Some-find.ensures
+first : (k : In-Some-find) → find_from k.args.cache.now.capacity k.args.self.now.keys.now k.args.subject.now 0 k.adopt-current.result.used ≡ some k.in-Some-find.slot
+first k = rw (k.in-Some.ensures.2, k.in-Some.ensures.1) at (sym k.in-Some-find.ensures.0)
 
 small : (k : In-Some-find) → Small k.args.cache.now.capacity k.args.self.now.keys.now k.args.cache.now.used
 small k = rw (k.in-Some.ensures.3, k.in-Some.ensures.2, k.in-Some.ensures.1) at k.in-Some.in_use.small
