@@ -82,6 +82,7 @@ pub fn resolve_single_home(
 }
 
 // The verdict on the list that a resolve hands back: 1 to 9, then 17, 18, 19 and 21.
+// Kept: a cache's three lists are three parameters, since the C interface lends them apart, as at `resolve`.
 pub fn resolve_single_home_cached(
     cache: ResolveCache,
     stamps: &mut [u64],

@@ -50,6 +50,7 @@ compared_handed compared text list room give w theirs Rest here plainly calm acc
         → Answered compared (ours.refused a) (Ok (refused e, w)) (Rest (turned_back a))
     same a e q = ((refused e, w), refl, ([], q), here a)
 
+    -- Kept: by `error-number` it would need bounds on the number, and a law of `added_number`: as long as the seven cases
     by_error : (e : Error) → Goal (answer_of (subject.Err e)) (Ok (refused e, w))
     by_error Empty = same (answer_of (subject.Err Empty)) Empty refl
     by_error (EmptyToken index) = same (answer_of (subject.Err (EmptyToken index))) (EmptyToken index) refl

@@ -23,8 +23,7 @@ pub enum CrossingError {
     OutShort(usize),
 }
 
-// Kept: written by hand, here and in sublist_entries, sublist, sublist_walk and resolve_cache: a clause that names the
-// error which a `?` makes needs `from_gives`, and no derive writes it.
+// Kept: written by hand: a clause that names the error which a `?` makes needs `from_gives`, and no derive writes it.
 impl From<SubjectError> for CrossingError {
     ghost from_gives = { λ error result. result ≡ Invalid error };
 

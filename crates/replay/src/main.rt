@@ -485,6 +485,7 @@ impl List {
 }
 
 // The generation of a snapshot that is made counts as stamped.
+// Kept: field by field, here and where a state is taken out of an answer below: router_words says why.
 fn stored(m: CMadeSnapshot) -> CStored {
     CStored {
         number: m.number,
@@ -755,7 +756,8 @@ impl Router {
 
     // The cache, the list, then the subject. The original says how long the list of a resolve is, and not where it
     // lies.
-    // Kept: not by `on_cache`: the list is read behind the cache, and held between the answer and the cache.
+    // Kept: by `on_cache` it is no plainer: the list is read behind the cache, and held between the answer and the
+    // cache, so that a second call would have to be handed on.
     fn resolve<R: Print>(&mut self, record: &mut Record<'_, '_, R>) -> io::Result<()> {
         let mut fields = record.fields;
         let left = fields.cache();

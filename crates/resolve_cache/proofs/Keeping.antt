@@ -27,6 +27,7 @@ use Rattle.resolve_cache.proofs.Resolving.{walking}
 
 module _ (c : ResolveCache) (a : Area) (s : Snapshot) (words subject out : List ℕ) where
   -- what a list that was kept, or was not, leaves
+  -- Kept: `Keeps.qualified` of resolve_cache_rules tells the same two cases; both are `refl` here, and a citation is longer.
   missed-left : (e : ResolveCache) (list : List ℕ) (d : ResolveCache) (area : Area) → Keeps e a subject list d area
       → ◌≡◌ {A = Resolved} (record { says = in_out (length list); cache = d; area = area; out = over list out }) (missed c a subject out e list)
   missed-left e list d area k = rw (k.cache, k.area) (by (qualifies subject list))

@@ -46,6 +46,7 @@ pub enum ResolveError {
     OutShort(usize),
 }
 
+// Kept: by hand, here and below, as in crossing: a clause names this error, so it needs `from_gives`.
 impl From<SubjectError> for ResolveError {
     ghost from_gives = { λ e r. r ≡ Invalid e };
 
@@ -89,8 +90,9 @@ struct Keys<'a> {
 // The targets of a subject, from the cache or by a walk of the standing table, whose list is then kept.
 // 1 to 9, 17, 18, 19 on the counts; then a hit (21) or a walk (19, 21).
 // Only the stamps change on a hit; a refusal changes nothing.
-// Kept: the C interface lends the slots' three lists apart, and a `&mut Slots` in their place asks for `SameLists` in
-// each contract besides: without it `look_up` does not tell `resolve` what the lists that it was lent hold afterwards.
+// Kept: the C interface lends the slots' three lists apart, here and in binding; a `&mut Slots` in their place asks for
+// `SameLists` in each contract besides: without it `look_up` does not tell `resolve` what the lists that it was lent
+// hold afterwards.
 pub fn resolve(
     cache: ResolveCache,
     stamps: &mut [u64],
@@ -160,7 +162,8 @@ impl<'a> Keys<'a> {
     // The keys of so many slots, unless one of them is bad: it has a key over 256 bytes or over 16 targets, so that its
     // byte of the second list is over 16.
     // Kept: a fold with `|`, which compiles to steps of sixteen bytes; `any` leaves its loop early, looks at a byte a
-    // step, and took ten times as long over 1,024 slots.
+    // step, and took ten times as long over 1,024 slots: a cache of 1,024, each in turn, is to be as fast as the
+    // original's at least, and is 1.13 times.
     fn new(bytes: &'a [u8], capacity: usize, used: usize) -> Option<Keys<'a>>
         requires { (used ≤ capacity)
             × Roomy capacity bytes.now }
@@ -184,7 +187,7 @@ impl<'a> Keys<'a> {
     }
 
     // Whether one of the 32 slots from a place on may have a mark.
-    // Kept: a fold with `|`, as in `new`: `any` took nine times as long here.
+    // Kept: a fold with `|`, as in `new`, for the same bar: `any` took nine times as long here.
     fn any_marked(&self, from: usize, sought: u16) -> bool
         requires { from < self.now.used }
         ensures { result ≡ false → (k : ℕ) → k < 32
@@ -390,7 +393,8 @@ impl Slots<'_> {
         grown(cache)
     }
 
-    // What a resolve comes to: 1 to 9, 17, 18, 19 on the counts, then a hit (21), or a walk (19, 21) whose list is kept.
+    // What a resolve comes to: 1 to 9, 17, 18, 19 on the counts, then a hit (21), or a walk (19, 21) whose list is
+    // kept.
     #[tactic(auto, using(crate::proofs::Resolving::stages))]
     fn look_up(
         &mut self,

@@ -46,6 +46,7 @@ pub enum SublistError {
     ForkLimitExceeded { worst_case: usize, limit: usize },
 }
 
+// Kept: by hand, as in crossing: a clause names this error, so it needs `from_gives`.
 impl From<SubjectError> for SublistError {
     ghost use Rattle.std.specs.Prelude.{◌≡◌};
     ghost use Rattle.sublist.specs.declared.SublistError.TheVariants.{InvalidPattern};
@@ -501,7 +502,8 @@ fn finish<F: EntryForm>(
     })
 }
 
-// Kept: the C interface lends a list, its store and the words of its table apart, here and at the two names below.
+// Kept: the C interface lends a list, its store and the words of its table apart, here and at the two names below, of
+// which C calls the second and Rattle callers the first.
 // The table of a list of either form: 10, 12 and 13, 14, then the rest.
 #[tactic(auto, using(crate::proofs::Stages::bad_list))]
 fn build_list<F: EntryForm>(

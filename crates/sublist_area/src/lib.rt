@@ -102,7 +102,8 @@ impl<'a> Nodes<'a> {
             link = at * NODE_WORDS + SIBLINGS + (rest % 4) as usize;
             rest /= 4;
         }
-        // Kept: with no step left a link to a node is damage too, so this read is not `linked`.
+        // Kept: with no step left a link to a node is damage too; `linked` would be no plainer, since it would have to
+        // be told that there are no nodes.
         if self.words[link] == 0 {
             Child::Missing(link)
         } else {
@@ -141,6 +142,8 @@ fn fresh(hash: u64, parent: u32) -> [u32; NODE_WORDS]
 }
 
 // Writes node `count` below a node, and its number into a word.
+// Kept: words and count apart, here and in `child_or_new`; a struct that holds the `&mut` would add to each clause that
+// it is the same and as long, as in sublist.
 #[tactic(auto, using(sublist_area_rules::proofs::Stores::added_by))]
 fn add_node(node_words: &mut [u32], count: usize, link: usize, hash: u64, parent: u32)
     requires { (count * words_per_node + words_per_node ≤ length node_words.old)

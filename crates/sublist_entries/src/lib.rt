@@ -46,6 +46,7 @@ pub enum InsertError {
     TextFull,
 }
 
+// Kept: by hand, as in crossing: a clause names this error, so it needs `from_gives`.
 impl From<SubjectError> for InsertError {
     ghost use Rattle.std.specs.Prelude.{◌≡◌};
     ghost use Rattle.sublist_entries.specs.declared.InsertError.TheVariants.{Invalid};
@@ -170,7 +171,8 @@ fn place_text(
 }
 
 // A pattern's text is appended to the store, and its entry to a list of either form. A refusal changes neither.
-// Kept: the C interface lends a store, a pattern and a target apart, here and at the two names below.
+// Kept: the C interface lends a store, a pattern and a target apart, here and at the two names below, of which C calls
+// the second and Rattle callers the first.
 fn insert_entry<F: EntryForm>(
     list: ListState,
     entries: &mut [F],

@@ -1,11 +1,8 @@
 -- Parts of lists: one element more behind those searched, and a part of a list's first elements.
 use Rattle.std.proofs.Common.{◌≡◌, ℕ, zero, suc, ◌+◌, ◌≤◌, Bool, true, false, eqb, List, [], ◌∷◌, ◌++◌, take, refl, take-take, arith}
 use Rattle.subject_rules.specs.Choice.{or}
+use Rattle.subject_rules.proofs.Booleans.{or_false}
 use Rattle.sublist_walk_rules.specs.Walk.{part, among}
-
-or_false : (b : Bool) → or b false ≡ b
-or_false true = refl
-or_false false = refl
 
 pub among_snoc : (j : ℕ) (xs : List ℕ) (x : ℕ) → among j (xs ++ (x ∷ [])) ≡ or (among j xs) (eqb j x)
 among_snoc j [] x = or_false (eqb j x)
