@@ -45,7 +45,21 @@ struct Writer<'a> {
 impl Writer<'_> {
     ghost use Rattle.crossing.specs.Puts.{Puts};
 
-    // Bytes, as far as the output goes.
+    // A byte, if the output has a place for it.
+    fn write_byte(&mut self, byte: u8)
+        requires { self.old.at + 1 ≤ 4097 }
+        ensures same_output { self.new.out.ghost_name ≡ self.old.out.ghost_name }
+        ensures same_filler { self.new.filler ≡ self.old.filler }
+        ensures at { self.new.at ≡ self.old.at + 1 }
+        ensures out { self.new.out.now ≡ sets self.old.out.now self.old.at (byte ∷ []) }
+    {
+        if self.at < self.out.len() {
+            self.out[self.at] = byte;
+        }
+        self.at += 1;
+    }
+
+    // Bytes, as far as the output goes. One alone is no copy, which would be a call of `memset` for a known one.
     #[tactic(auto, using(crate::proofs::Putting::written))]
     fn write(&mut self, bytes: &[u8])
         requires { self.old.at + length bytes.now ≤ 4097 }
@@ -54,11 +68,14 @@ impl Writer<'_> {
         ensures at { self.new.at ≡ self.old.at + length bytes.now }
         ensures out { self.new.out.now ≡ sets self.old.out.now self.old.at bytes.now }
     {
+        if let [byte] = bytes {
+            return self.write_byte(*byte);
+        }
         let size = self.out.len();
         let start = self.at.min(size);
         self.at += bytes.len();
         let end = self.at.min(size);
-        self.out[start..end].copy_from_slice(&bytes[..end - start]);
+        subject::copy_over(&bytes[..end - start], &mut self.out[start..end]);
     }
 
     // A token and a dot behind it, if a subject may have so many bytes.
@@ -70,7 +87,7 @@ impl Writer<'_> {
             return None;
         }
         self.write(token);
-        self.write(b".");
+        self.write_byte(b'.');
         Some(())
     }
 
@@ -137,7 +154,7 @@ impl Writer<'_> {
             }
             self.put_common(token, other)?;
         }
-        others.next().is_none().then_some(())
+        others.is_done().then_some(())
     }
 }
 

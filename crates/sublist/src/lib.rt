@@ -307,8 +307,11 @@ fn same_key(s: &[u8], t: &[u8]) -> bool
     if is_tail(s) || is_tail(t) {
         return false;
     }
-    // Tokens of equal bytes need no hashes.
-    same_bytes(s, t) || child_key(s) == child_key(t)
+    if is_star(s) != is_star(t) {
+        return false;
+    }
+    // Tokens of equal bytes need no hashes, nor does a `*` beside a literal.
+    same_bytes(s, t) || token_hash(s) == token_hash(t)
 }
 
 // The number of keys that two patterns begin with alike.

@@ -2,7 +2,7 @@
 // Definitions, theorems and the types of the answers: no code. specs/Words.antt lists a node's words.
 #![tactic(auto)]
 // What a child is reached by: it is the `*` child, or the literal child with a hash.
-#[derive(Clone, Copy, PartialEq, Eq)]
+#[derive(Clone, Copy)]
 pub enum ChildKey {
     Star,
     Literal(u64),

@@ -163,7 +163,7 @@ fn place_text(
         return Err(InsertError::TextFull);
     }
     let used = list.used + pattern.len();
-    store[list.used..used].copy_from_slice(pattern);
+    subject::copy_over(pattern, &mut store[list.used..used]);
     Ok(ListState {
         entries: list.entries + 1,
         used,

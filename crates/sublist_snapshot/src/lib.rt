@@ -254,7 +254,7 @@ fn copy_table(table: &Table<'_>, area: &mut [u32]) -> Result<(), StoreError>
     if area.len() < end {
         return Err(StoreError::StoreFull);
     }
-    area[..front].copy_from_slice(&table.node_words[..front]);
-    area[front..end].copy_from_slice(&table.target_words[..table.targets]);
+    subject::copy_over(&table.node_words[..front], &mut area[..front]);
+    subject::copy_over(&table.target_words[..table.targets], &mut area[front..end]);
     Ok(())
 }

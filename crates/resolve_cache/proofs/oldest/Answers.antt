@@ -1,15 +1,19 @@
--- `resolve_cache::oldest` meets its contract. Assumes nothing.
-use Rattle.std.proofs.Common.{rules, ◌≡◌, ◌-◌, ◌∙◌, subst, sym, arith, ◌<◌}
-use Rattle.std.proofs.lemmas.Iterator.{YieldsList-from_range}
+use Rattle.std.proofs.Common.{◌≡◌, ◌+◌, ◌-◌, ltb, ◌∙◌, arith, le-ltb, lt-ltb}
+use Rattle.subject_rules.specs.Choice.{pick}
+use Rattle.resolve_cache_rules.specs.Area.{stamp_at}
 use Rattle.resolve_cache_rules.specs.Cache.{oldest_from}
-use Rattle.resolve_cache_rules.proofs.Slots.{oldest_below}
-use Rattle.resolve_cache.proofs.Scans.{picked}
+use Rattle.resolve_cache.proofs.Scans.{oldest_turn}
 use Rattle.resolve_cache.proofs.oldest.Goals as goal
+use Rattle.resolve_cache.proofs.oldest.Goals.{then-stamps-i, else-stamps-i}
 
-pub returns : goal.returns
-returns c =
-    let is : c.unwrap_or.result ≡ oldest_from c.args.stamps.now 0 1 (c.args.n - 1) =
-    c.unwrap_or.ensures
-    ∙ picked _ c.args.stamps.now _ (λ x k f' called. search rules) _ c.args.n c.min_by_key.result c.requires.0 c.min_by_key.ensures.ran
-    (YieldsList-from_range 0 c.args.n c.args.n (cc) (omega arith)) in
-    (is, subst (λ x. x < c.args.n) (sym is) (oldest_below c.args.stamps.now 0 1 (c.args.n - 1) c.args.n c.requires.0 (omega arith)))
+pub loop-i-preserved : goal.loop-i-preserved
+loop-i-preserved c =
+    let stamps = c.args.stamps.now in
+    let l = c.loop-i in
+    let turn : c.if-stamps-i.best ≡ pick (ltb (stamp_at stamps l.i) (stamp_at stamps l.best)) l.i l.best
+    → oldest_from stamps c.if-stamps-i.best (l.i + 1) (c.args.n - (l.i + 1)) ≡ oldest_from stamps 0 1 (c.args.n - 1) =
+    λ q. oldest_turn stamps l.best l.i c.args.n c.if-stamps-i.best _ (omega arith) q l.invariant.1 in
+    elim c.if-stamps-i.branch [
+      | then-stamps-i w ↦ (omega arith, turn (w.best-is ∙ rw (lt-ltb _ _ w.if-stamps-i.true)))
+      | else-stamps-i w ↦ (omega arith, turn (w.best-is ∙ rw (le-ltb _ _ w.if-stamps-i.false)))
+    ]
